@@ -1,0 +1,5 @@
+pub mod Judge
+pub mod Engine
+pub mod Machine
+pub mod Promise
+pub mod Reply

@@ -1,0 +1,10 @@
+pub mod Lists
+pub mod Order
+pub mod Changes
+pub mod Digits
+pub mod Words
+pub mod Stands
+pub mod Blocks
+pub mod Lowest
+pub mod Find
+pub mod Ranks

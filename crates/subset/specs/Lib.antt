@@ -1,0 +1,4 @@
+pub mod Parts
+pub mod Row
+pub mod Says
+pub mod Laws
