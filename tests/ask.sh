@@ -69,7 +69,7 @@ six="0 1 2 3 4 5?"
 converse "nothing of six parts fails" judge_none sound
 converse "1 and 4 of six parts fail" judge_pair "left 1 4"
 run '6\ny\n'
-expect "the input ends after one answer" 1 "$six"$'\n1 2 3 4 5?' "ended before the answer"
+expect "the input ends after one answer" 1 "$six"$'\n0 1?' "ended before the answer"
 
 run '' x
 expect "x is no number" 1 "" "no number of parts: 'x'"

@@ -1,7 +1,10 @@
-// Finds the parts that make something fail, by asking at a keyboard or through a pipe.
+// Finds the parts that make something fail, by asking at a keyboard, or another program.
+ghost use mathlib.Core.Path.{_≡_};
+ghost use lib.ListN.{take};
+ghost use Rattle.std.specs.Vec.{made};
+use bisect::Verdict;
 use dialog::lines;
 use dialog::reading;
-use dialog::reading::Answer;
 use dialog::reading::Size;
 use reduce::Told;
 use reduce::step;
@@ -38,13 +41,13 @@ fn next_line(lines: &mut Lines, ended: &str) -> Result<Vec<u8>, AnyError> {
 }
 
 // Asks until a line is an answer.
-fn ask(rt: &LibcRuntime, lines: &mut Lines, parts: &[u64]) -> Result<Answer, AnyError> {
+fn ask(rt: &LibcRuntime, lines: &mut Lines, parts: &[u64]) -> Result<Verdict, AnyError> {
     let question = lines::question_line(rt.alloc(), parts)?;
     for _ in 0..u64::MAX {
         say(rt, question.as_str())?;
         let line = next_line(lines, "the input ended before the answer")?;
-        if let Some(answer) = reading::answer_in(line.as_slice()) {
-            return Ok(answer);
+        if let Some(verdict) = reading::verdict_in(line.as_slice()) {
+            return Ok(verdict);
         }
         let text = String::from_utf8_lossy(rt.alloc(), line.as_slice())?;
         eprintln!(rt, "no answer: {text:?}; {UNDERSTOOD}")?;
@@ -53,7 +56,9 @@ fn ask(rt: &LibcRuntime, lines: &mut Lines, parts: &[u64]) -> Result<Answer, Any
 }
 
 // The first `count` numbers of what the machine wrote.
-fn told_parts(out: &[u64], count: u64) -> Result<&[u64], AnyError> {
+fn told_parts(out: &[u64], count: u64) -> Result<&[u64], AnyError>
+    ensures { λ r. ⌜ made r (λ parts. parts .now ≡ take count (now (out .entry))) ⌝ }
+{
     let Some(parts) = out.get(..count as usize) else {
         return Err("inner error: the machine tells of more parts than it has room for".into());
     };
@@ -70,8 +75,8 @@ fn talk(
     for _ in 0..u64::MAX {
         match told {
             Told::Ask(count) => {
-                let answer = ask(rt, lines, told_parts(out, count)?)?;
-                told = step(memory, 1, answer.verdict(), out);
+                let verdict = ask(rt, lines, told_parts(out, count)?)?;
+                told = step(memory, 1, verdict.number(), out);
             }
             Told::Rest(count) => {
                 let left = lines::left_line(rt.alloc(), told_parts(out, count)?)?;

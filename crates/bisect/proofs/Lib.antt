@@ -1,3 +1,13 @@
 pub mod Least
 pub mod Follow
 pub mod Leave
+pub mod Cut
+pub mod Keep
+pub mod Right
+pub mod Paid
+pub mod Nest
+pub mod Trace
+pub mod Passes
+pub mod Demand
+pub mod Apart
+pub mod Asking

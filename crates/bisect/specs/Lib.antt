@@ -3,3 +3,8 @@ pub mod Engine
 pub mod Machine
 pub mod Promise
 pub mod Reply
+pub mod Search
+pub mod Pass
+pub mod Apart
+pub mod Verdict
+pub mod Stand

@@ -1,6 +1,6 @@
 -- What a reducer promises, over every judge. Each is a statement, a type whose proof is owed. Assumes nothing.
 use mathlib.Core.Path.{_≡_}
-use mathlib.Core.Bool.{Bool, true, false}
+use mathlib.Core.Bool.{true, false}
 use mathlib.Core.List.{List, [], _∷_}
 use Prim.Native.Nat.{ℕ, _+_, _*_, _≤_, _<_}
 use lib.ListN.{length}
@@ -39,6 +39,14 @@ Reduces e = Demands Bounded e
 -- THE WHOLE PROMISE: right for every judge, and with few questions for monotone ones
 abbrev pub Whole : Engine → Type 0
 Whole e = Demands (λ n f R. Bounded n f R × Few n f R) e
+
+-- the sharp counts: what memories of later machines have room for
+abbrev pub Counts : ℕ → Judge → Ran → Type 0
+Counts n f R = (length (R .asked) ≤ 7 * (n * n) + 20 * n + 14) × (Monotone f n → length (R .asked) ≤ 14 * (length (R .rest) + 1))
+
+-- right for every judge, with the sharp counts: the whole promise follows
+abbrev pub Sharp : Engine → Type 0
+Sharp e = Demands Counts e
 
 -- If failing is monotone, nothing smaller within a lean subset fails.
 unfoldable pub Lean-least : Type 0

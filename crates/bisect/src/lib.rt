@@ -1,12 +1,20 @@
-// The words of reducers: judges, lean subsets, engines and their runs; and the entry that leaves one part out.
+// The words of reducers: judges, lean subsets, engines and their runs; one pass over a subset that fails; and the entry that leaves one part out.
 ghost use mathlib.Core.Path.{_≡_};
 ghost use mathlib.Core.List.{_++_};
 ghost use Prim.Native.Nat.{_≤_};
 ghost use lib.ListN.{drop, length};
 ghost use Rattle.subset.specs.Laws.{Taken-out};
 ghost use Rattle.subset.specs.Parts.{rising, without};
+ghost use Rattle.bisect.specs.Apart.{Enough-asked, Told-apart};
+ghost use Rattle.bisect.specs.Pass.{Any-pass, Nested, One-pass};
 ghost use Rattle.bisect.specs.Promise.{Lean-least, Needed-left, One-decides};
 ghost use Rattle.bisect.specs.Reply.{Without-says, refusal};
+pub use seeking::question;
+pub use verdict::Verdict;
+pub use verdict::fails;
+
+mod seeking;
+mod verdict;
 
 #[derive(Clone, Copy)]
 pub enum Reply {
@@ -14,6 +22,21 @@ pub enum Reply {
     Left(u64),
     // The number of the refusal.
     Refused(u64),
+}
+
+// Where a pass stands over a subset that fails: its first members are the row, the others are known to be needed.
+#[derive(Clone, Copy)]
+pub struct Search {
+    // What is known of the row: if this is l + 1, its first l with what is needed don't fail.
+    pub lo: u64,
+    // How many members are in the row.
+    pub row: u64,
+    // How many there were when the pass began.
+    pub begun: u64,
+    // How many questions the pass has asked.
+    pub spent: u64,
+    // How many were found needed since the subset last changed; they are the first behind the row.
+    pub sure: u64,
 }
 
 // Whether each part is less than the next.
@@ -63,6 +86,23 @@ pub fn lean_stands() -> u8
     ensures needed { λ _. ⌜ Needed-left ⌝ }
     ensures one { λ _. ⌜ One-decides ⌝ }
     ensures others { λ _. ⌜ Taken-out ⌝ }
+{
+    0
+}
+
+// One pass over a subset that fails: whatever its cuts are it ends, and what it leaves and has asked is known; with the cuts that are made it asks little.
+pub fn pass_stands() -> u8
+    ensures any { λ _. ⌜ Any-pass ⌝ }
+    ensures counted { λ _. ⌜ One-pass ⌝ }
+    ensures nested { λ _. ⌜ Nested ⌝ }
+{
+    0
+}
+
+// What every reducer has to hear and to ask, where one part alone decides.
+pub fn apart_stands() -> u8
+    ensures apart { λ _. ⌜ Told-apart ⌝ }
+    ensures enough { λ _. ⌜ Enough-asked ⌝ }
 {
     0
 }

@@ -5,8 +5,8 @@ use Prim.Native.Nat.{ℕ, _+_, _-_, _*_, _^_}
 use lib.Dec.{eqb, leb, ltb}
 use Rattle.std.specs.declared.option.Option.{Option}
 use Rattle.std.specs.declared.option.Option.the-variants.{Some, None}
-use Rattle.dialog.specs.declared.reading.Answer.{Answer}
-use Rattle.dialog.specs.declared.reading.Answer.the-variants.{No, Yes, Unclear}
+use Rattle.bisect.specs.declared.verdict.Verdict.{Verdict}
+use Rattle.bisect.specs.declared.verdict.Verdict.the-variants.{No, Yes, Unclear}
 use Rattle.dialog.specs.declared.reading.Size.{Size}
 use Rattle.dialog.specs.declared.reading.Size.the-variants.{Parts, TooMany, NoNumber}
 
@@ -24,23 +24,17 @@ abbrev pub trimmed : List ℕ → List ℕ
 trimmed bs = reverse (unpadded (reverse (unpadded bs)))
 
 -- the answer that one byte gives: y, n or u
-abbrev pub letter-answer : ℕ → Option Answer
-letter-answer b = cond (eqb b 121) (Some Yes) (cond (eqb b 110) (Some No) (cond (eqb b 117) (Some Unclear) None))
+abbrev pub letter-verdict : ℕ → Option Verdict
+letter-verdict b = cond (eqb b 121) (Some Yes) (cond (eqb b 110) (Some No) (cond (eqb b 117) (Some Unclear) None))
 
 -- of a line without blanks at its ends
-abbrev pub bare-answer : List ℕ → Option Answer
-bare-answer [] = None
-bare-answer (b ∷ []) = letter-answer b
-bare-answer (b ∷ c ∷ bs) = None
+abbrev pub bare-verdict : List ℕ → Option Verdict
+bare-verdict [] = None
+bare-verdict (b ∷ []) = letter-verdict b
+bare-verdict (b ∷ c ∷ bs) = None
 
-abbrev pub line-answer : List ℕ → Option Answer
-line-answer bs = bare-answer (trimmed bs)
-
--- what the machine calls it
-abbrev pub verdict-number : Answer → ℕ
-verdict-number No = 0
-verdict-number Yes = 1
-verdict-number Unclear = 2
+abbrev pub line-verdict : List ℕ → Option Verdict
+line-verdict bs = bare-verdict (trimmed bs)
 
 abbrev pub digit : ℕ → Bool
 digit b = leb 48 b && leb b 57

@@ -2,14 +2,8 @@
 ghost use mathlib.Core.Path.{_≡_};
 ghost use mathlib.Core.Bool.{true};
 ghost use mathlib.Core.List.{reverse};
-ghost use Rattle.dialog.specs.Reading.{blank, unpadded, trimmed, letter-answer, line-answer, verdict-number, digit, digits-only, number-from, held, text-size};
-
-#[derive(Clone, Copy, Debug, PartialEq)]
-pub enum Answer {
-    No,
-    Yes,
-    Unclear,
-}
+ghost use Rattle.dialog.specs.Reading.{blank, unpadded, trimmed, letter-verdict, line-verdict, digit, digits-only, number-from, held, text-size};
+use bisect::Verdict;
 
 #[derive(Clone, Copy, Debug, PartialEq)]
 pub enum Size {
@@ -57,35 +51,23 @@ fn trim(text: &[u8]) -> &[u8]
     trim_end(trim_start(text))
 }
 
-fn letter(byte: u8) -> Option<Answer>
-    ensures { λ r. ⌜ r ≡ letter-answer byte ⌝ }
+fn letter(byte: u8) -> Option<Verdict>
+    ensures { λ r. ⌜ r ≡ letter-verdict byte ⌝ }
 {
     match byte {
-        b'y' => Some(Answer::Yes),
-        b'n' => Some(Answer::No),
-        b'u' => Some(Answer::Unclear),
+        b'y' => Some(Verdict::Yes),
+        b'n' => Some(Verdict::No),
+        b'u' => Some(Verdict::Unclear),
         _ => None,
     }
 }
 
-pub fn answer_in(line: &[u8]) -> Option<Answer>
-    ensures { λ r. ⌜ r ≡ line-answer (now (line .entry)) ⌝ }
+pub fn verdict_in(line: &[u8]) -> Option<Verdict>
+    ensures { λ r. ⌜ r ≡ line-verdict (now (line .entry)) ⌝ }
 {
     match trim(line) {
         [byte] => letter(*byte),
         _ => None,
-    }
-}
-
-impl Answer {
-    pub fn verdict(self) -> u64
-        ensures { λ r. ⌜ r ≡ verdict-number self ⌝ }
-    {
-        match self {
-            Answer::No => 0,
-            Answer::Yes => 1,
-            Answer::Unclear => 2,
-        }
     }
 }
 
@@ -136,13 +118,13 @@ mod tests {
     use std::test::*;
 
     #[test]
-    fn answers() -> Result<(), Fail> {
-        check_eq(answer_in(b" y\r"), Some(Answer::Yes))?;
-        check_eq(answer_in(b"\tn "), Some(Answer::No))?;
-        check_eq(answer_in(b"u"), Some(Answer::Unclear))?;
-        check_eq(answer_in(b"yes"), None)?;
-        check_eq(answer_in(b"Y"), None)?;
-        check_eq(answer_in(b""), None)
+    fn verdicts() -> Result<(), Fail> {
+        check(matches!(verdict_in(b" y\r"), Some(Verdict::Yes)))?;
+        check(matches!(verdict_in(b"\tn "), Some(Verdict::No)))?;
+        check(matches!(verdict_in(b"u"), Some(Verdict::Unclear)))?;
+        check(matches!(verdict_in(b"yes"), None))?;
+        check(matches!(verdict_in(b"Y"), None))?;
+        check(matches!(verdict_in(b""), None))
     }
 
     #[test]

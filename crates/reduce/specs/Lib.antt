@@ -1,3 +1,5 @@
 pub mod State
+pub mod Start
 pub mod Own
 pub mod Entry
+pub mod Examples

@@ -7,12 +7,15 @@ use lib.ListN.{length, getD}
 use Rattle.subset.specs.Parts.{all-parts, without}
 use Rattle.bisect.specs.Engine.{Act, ask, left, sound, refused}
 use Rattle.bisect.specs.Machine.{Machine}
+use Rattle.bisect.specs.Search.{Pass, fresh, cut-of, question, answered}
 
 pub data State : Type 0 where
   -- nothing is asked
   idle : State
   -- it asked of all of these
   first : List ℕ → State
+  -- a pass goes on, and asked at its cut
+  seek : Pass → State
   -- these fail, and none of the first i can be left out; it asked of them without the i-th
   try : ℕ → List ℕ → State
   -- it told that these are left; that all together don't fail; that there are too many
@@ -28,27 +31,43 @@ less i ks = without (getD ks i 0) ks
 unfoldable pub trial : ℕ → List ℕ → State
 trial i ks = cond (ltb i (length ks)) (try i ks) (over ks)
 
--- after an answer: whether what was asked fails
-unfoldable pub next : State → Bool → State
-next idle b = idle
-next (first ks) true = trial 0 ks
-next (first ks) false = calm
-next (try i ks) true = trial 0 (less i ks)
-next (try i ks) false = trial (suc i) ks
-next (over ks) b = idle
-next calm b = idle
-next many b = idle
+-- on with the pass, or, where its row is empty, to the trials of what isn't sure
+unfoldable pub go-on : Pass → State
+go-on p = cond (ltb 0 (p .at .row)) (seek p) (trial (p .at .sure) (p .held))
+
+-- after an answer: whether what was asked fails; a pass is cut by `cuts`
+unfoldable pub next-by : (cuts : Pass → ℕ) → State → Bool → State
+next-by cuts idle b = idle
+next-by cuts (first ks) true = go-on (fresh ks)
+next-by cuts (first ks) false = calm
+next-by cuts (seek p) b = go-on (answered (cuts p) p b)
+next-by cuts (try i ks) true = go-on (fresh (less i ks))
+next-by cuts (try i ks) false = trial (suc i) ks
+next-by cuts (over ks) b = idle
+next-by cuts calm b = idle
+next-by cuts many b = idle
+
+abbrev pub next : State → Bool → State
+next = next-by cut-of
 
 unfoldable pub begin : ℕ → State
 begin n = cond (leb n 4096) (first (all-parts n)) many
 
-unfoldable pub act-of : State → Act
-act-of idle = refused
-act-of (first ks) = ask ks
-act-of (try i ks) = ask (less i ks)
-act-of (over ks) = left ks
-act-of calm = sound
-act-of many = refused
+unfoldable pub act-by : (cuts : Pass → ℕ) → State → Act
+act-by cuts idle = refused
+act-by cuts (first ks) = ask ks
+act-by cuts (seek p) = ask (question (cuts p) p)
+act-by cuts (try i ks) = ask (less i ks)
+act-by cuts (over ks) = left ks
+act-by cuts calm = sound
+act-by cuts many = refused
 
+abbrev pub act-of : State → Act
+act-of = act-by cut-of
+
+abbrev pub reducing-by : (cuts : Pass → ℕ) → Machine State Bool
+reducing-by cuts = record { begin = begin; reads = λ v. eqb v 1; next = next-by cuts; act = act-by cuts }
+
+-- with the cuts that are made
 abbrev pub reducing : Machine State Bool
-reducing = record { begin = begin; reads = λ v. eqb v 1; next = next; act = act-of }
+reducing = reducing-by cut-of

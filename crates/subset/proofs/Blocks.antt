@@ -1,27 +1,26 @@
 -- Whole words at a time: counted, filled, joined.
-use mathlib.Core.Path.{_≡_, refl, sym, ap, ap₂, _∙_, subst}
+use mathlib.Core.Path.{_≡_, refl, sym, ap, ap₂, _∙_}
 use mathlib.Core.Logic.{_⊎_, inl, inr}
 use mathlib.Core.Bool.{Bool, true, false, _&&_, _||_, not, cond}
 use mathlib.Core.List.{List, [], _∷_, _++_, map, append-nil, append-assoc}
 use Prim.Native.Nat.{ℕ, zero, suc, _+_, _-_, _*_, _/_, _%_, _^_, _≤_, _<_, min}
 use native.Mathlib.Omega.{arith}
-use native.Mathlib.Numerals.{add-one}
 use lib.Dec.{eqb, ltb}
 use lib.Bits.{bitOr, or-lt}
 use lib.Pow.{pow-pos, pow-mono}
 use lib.Count.{ones, onesIn, ones-step}
-use lib.ListN.{length, getD, set, take, drop, length-set, length-append, length-map}
+use lib.ListN.{length, getD, set, length-append, length-map}
 use lib.Seq.{getD-set-same, getD-set-other}
 use Rattle.std.proofs.shelf.Lists.{getD-past}
-use Rattle.std.proofs.shelf.Tests.{ltb-true, ltb-false, lt-ltb, le-ltb, cases-eq, cases-lt}
-use Rattle.subset.specs.Parts.{those, all-parts, some-of, has}
-use Rattle.subset.specs.Row.{digit, bit, members, joined, rank}
+use Rattle.std.proofs.shelf.Tests.{lt-ltb, le-ltb, cases-eq, cases-lt}
+use Rattle.subset.specs.Parts.{those, all-parts, has}
+use Rattle.subset.specs.Row.{digit, bit, members, joined}
 use Rattle.subset.specs.Says.{Holds}
 use Rattle.subset.proofs.Lists.{length-those, length-all}
 use Rattle.subset.proofs.Order.{subsets-same}
-use Rattle.subset.proofs.Changes.{upto, has-upto, has-filtered, has-all, has-joined, some-of-all, some-of-upto, some-of-those}
+use Rattle.subset.proofs.Changes.{upto, has-upto, has-all, has-joined, some-of-all, some-of-upto}
 use Rattle.subset.proofs.Digits.{digit-zero, digit-suc, digit-none, digit-small, digit-turned, digit-or}
-use Rattle.subset.proofs.Words.{Small, has-members, holds}
+use Rattle.subset.proofs.Words.{has-members, holds}
 
 -- ---- the parts below a + b: those below a, and then as many of the next b
 those-append : (f : ℕ → Bool) (xs ys : List ℕ) → those f (xs ++ ys) ≡ those f xs ++ those f ys

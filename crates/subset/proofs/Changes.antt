@@ -1,18 +1,17 @@
 -- What each change of a subset does to the test of a part, and that it leaves a subset.
 use mathlib.Core.Path.{_≡_, refl, sym, ap, ap₂, _∙_}
 use mathlib.Core.Logic.{_⊎_, inl, inr}
-use mathlib.Core.Bool.{Bool, true, false, _&&_, _||_, not, cond, and-true, and-false, or-false}
+use mathlib.Core.Bool.{Bool, true, false, _&&_, _||_, not, and-true, and-false}
 use mathlib.Core.List.{List, [], _∷_, _++_}
 use Prim.Native.Nat.{ℕ, zero, suc, _+_, _≤_, _<_}
-use native.Mathlib.Nat.{not-suc-le-zero}
 use native.Mathlib.Omega.{arith}
 use lib.Dec.{eqb, ltb, leb, leb·suc-suc}
 use lib.ListN.{length, take, drop}
-use Rattle.std.proofs.shelf.Tests.{ltb-true, ltb-false, eqb-true, lt-ltb, le-ltb, le-leb, lt-leb, eq-eqb, ne-eqb, cases-bool, cases-eq, cases-order, both-ways, and-parts, and-from, or-cases}
+use Rattle.std.proofs.shelf.Tests.{ltb-true, lt-ltb, le-ltb, le-leb, lt-leb, eq-eqb, ne-eqb, cases-bool, cases-order, both-ways, and-parts, and-from}
 use Rattle.subset.specs.Parts.{any, those, all-parts, some-of, without, has}
 use Rattle.subset.specs.Row.{with-part, cut-out, joined, rank}
-use Rattle.subset.proofs.Lists.{Row, row-lower, row-from, row-to, row-those, row-keep, row-all, row-wider, has-those, those-has, those-in, those-out, length-all}
-use Rattle.subset.proofs.Order.{none-has, row-has}
+use Rattle.subset.proofs.Lists.{Row, row-lower, row-from, row-to, row-those, row-keep, row-all, row-wider, has-those, those-has, those-in, those-out}
+use Rattle.subset.proofs.Order.{row-has}
 
 pub bool-ext : (a b : Bool) → (a ≡ true → b ≡ true) → (b ≡ true → a ≡ true) → a ≡ b
 bool-ext true b f g = sym (f refl)

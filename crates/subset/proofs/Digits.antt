@@ -1,14 +1,13 @@
 -- The bits of one number.
-use mathlib.Core.Path.{_≡_, refl, sym, ap, ap₂, _∙_, subst}
+use mathlib.Core.Path.{_≡_, refl, sym, ap, _∙_}
 use mathlib.Core.Bool.{Bool, true, false, _&&_, _||_, not, cond}
-use Prim.Native.Nat.{ℕ, zero, suc, _+_, _-_, _*_, _/_, _%_, _^_, _≤_, _<_}
-use native.Mathlib.Nat.{div-eq-of-lt, div-one, zero-div, pow-suc}
+use Prim.Native.Nat.{ℕ, zero, suc, _+_, _-_, _*_, _/_, _%_, _^_, _<_}
+use native.Mathlib.Nat.{div-eq-of-lt, div-one, zero-div}
 use native.Mathlib.Omega.{arith}
-use lib.Dec.{eqb, ltb, eqb·suc-suc, eqb·zero-suc, eqb·suc-zero}
+use lib.Dec.{eqb, eqb·suc-suc, eqb·zero-suc, eqb·suc-zero}
 use lib.Bits.{bitAnd, bitOr, and-shr, and-mod, or-shr, or-mod, and-mask}
-use lib.Pow.{shr-shr, pow-pos}
-use lib.Count.{ones, ones-step}
-use Rattle.std.proofs.shelf.Tests.{eqb-true, eq-eqb}
+use lib.Pow.{shr-shr}
+use Rattle.std.proofs.shelf.Tests.{eq-eqb}
 use Rattle.subset.specs.Row.{digit, number}
 
 -- the lowest bit, and the others

@@ -1,9 +1,9 @@
 -- The first member of a kind, found word by word.
 use mathlib.Core.Path.{_≡_, refl, sym, ap, ap₂, _∙_}
 use mathlib.Core.Logic.{_⊎_, inl, inr}
-use mathlib.Core.Bool.{Bool, true, false, _&&_, _||_, not, and-true, and-false}
+use mathlib.Core.Bool.{Bool, true, false, _&&_, not}
 use mathlib.Core.List.{List, [], _∷_, _++_, map, append-assoc}
-use Prim.Native.Nat.{ℕ, zero, suc, _+_, _-_, _*_, _/_, _%_, _^_, _≤_, _<_, min}
+use Prim.Native.Nat.{ℕ, suc, _+_, _-_, _*_, _^_, _≤_, _<_, min}
 use native.Mathlib.Omega.{arith}
 use lib.Dec.{eqb, ltb, leb}
 use lib.Bits.{bitAnd}
@@ -12,19 +12,18 @@ use lib.ListN.{length, getD, drop, length-map, length-drop}
 use lib.Seq.{drop-append-add, drop-append-le}
 use borrow.Author.Numbers.{trailing-lt}
 use Rattle.std.proofs.shelf.Lists.{drop-all, drop-map}
-use Rattle.std.proofs.shelf.Tests.{lt-ltb, le-ltb, le-leb, lt-leb, ne-eqb, leb-true, leb-false, ltb-true, cases-lt, cases-eq, cases-bool, both-ways, and-parts, not-true, not-false}
-use Rattle.subset.specs.Parts.{those, some-of, every, within, has}
+use Rattle.std.proofs.shelf.Tests.{lt-ltb, le-ltb, le-leb, lt-leb, ne-eqb, cases-lt, cases-eq, both-ways, and-parts, not-true, not-false}
+use Rattle.subset.specs.Parts.{those, some-of, within, has}
 use Rattle.subset.specs.Row.{digit, bit, members}
 use Rattle.subset.specs.Says.{found}
-use Rattle.subset.specs.declared.Found.{Found}
 use Rattle.subset.specs.declared.Found.the-variants.{Part, Nothing}
 use Rattle.subset.proofs.Lists.{Row, row-from, has-head, has-every, every-has}
 use Rattle.subset.proofs.Lists as lists
 use Rattle.subset.proofs.Order.{row-has, none-has, must-false}
 use Rattle.subset.proofs.Changes.{upto, has-filtered, some-of-those}
 use Rattle.subset.proofs.Digits.{digit-none, digit-and, digit-turned}
-use Rattle.subset.proofs.Words.{Small, has-members, some-of-members, bit-past}
-use Rattle.subset.proofs.Blocks.{bit-one, bit-block, digit-ones, upto-word, upto-all, upto-more}
+use Rattle.subset.proofs.Words.{has-members, some-of-members, bit-past}
+use Rattle.subset.proofs.Blocks.{bit-one, bit-block, digit-ones, upto-word, upto-more}
 use Rattle.subset.proofs.Lowest.{Lowest, lowest, lowest-first, none-of-zero}
 
 -- ---- the head of a subset

@@ -1,14 +1,14 @@
 -- Laws of every, any, those and rising over lists of parts.
-use mathlib.Core.Path.{_≡_, refl, sym, ap, _∙_, subst}
-use mathlib.Core.Bool.{Bool, true, false, _&&_, _||_, not, cond}
+use mathlib.Core.Path.{_≡_, refl, sym, ap}
+use mathlib.Core.Bool.{Bool, true, false, not, cond}
 use mathlib.Core.List.{List, [], _∷_, _++_}
 use mathlib.Core.Logic.{_⊎_, inl, inr}
-use Prim.Native.Nat.{ℕ, zero, suc, _+_, _*_, _-_, _≤_, _<_}
+use Prim.Native.Nat.{ℕ, zero, suc, _+_, _-_, _≤_, _<_}
 use native.Mathlib.Nat.{not-suc-le-zero, le-of-suc-le-suc}
 use native.Mathlib.Omega.{arith}
-use lib.Dec.{eqb, ltb, leb}
+use lib.Dec.{eqb}
 use lib.ListN.{length, getD, take, drop, length-append, take-append-drop}
-use Rattle.std.proofs.shelf.Tests.{and-parts, and-from, ltb-true, ltb-false, lt-ltb, le-ltb, eqb-true, eqb-false, eq-eqb, ne-eqb, both-ways, cases-bool, or-cases, or-left, or-right, not-true, not-false, not-from-true, not-from-false}
+use Rattle.std.proofs.shelf.Tests.{and-parts, and-from, ltb-true, lt-ltb, eqb-true, eqb-false, eq-eqb, ne-eqb, both-ways, cases-bool, or-cases, or-left, or-right, not-true, not-from-true, not-from-false}
 use Rattle.subset.specs.Parts.{every, any, those, rising, some-of, without, has, within, all-parts}
 
 -- a rising row from b up, below n
@@ -75,6 +75,12 @@ every-append p (x ∷ xs) ys a b = and-from _ _ (and-parts _ _ a .0) (every-appe
 pub every-cons : {A : Type 0} (p : A → Bool) (x : A) (xs : List A) → p x ≡ true → every p xs ≡ true → every p (x ∷ xs) ≡ true
 unfolding every
 every-cons p x xs a b = and-from _ _ a b
+
+pub every-at : {A : Type 0} (p : A → Bool) (xs : List A) (i : ℕ) (d : A) → every p xs ≡ true → i < length xs → p (getD xs i d) ≡ true
+unfolding every
+every-at p [] i d h l = absurd (not-suc-le-zero l)
+every-at p (x ∷ xs) zero d h l = and-parts _ _ h .0
+every-at p (x ∷ xs) (suc i) d h l = every-at p xs i d (and-parts _ _ h .1) (le-of-suc-le-suc l)
 
 -- has
 pub has-those : (p : ℕ → Bool) (ks : List ℕ) (y : ℕ) → has (those p ks) y ≡ true → (has ks y ≡ true) × (p y ≡ true)

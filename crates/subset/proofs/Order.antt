@@ -1,13 +1,13 @@
 -- Subsets are known by their members.
 use mathlib.Core.Path.{_≡_, refl, sym, subst, ap₂, _∙_}
-use mathlib.Core.Bool.{Bool, true, false, _&&_, _||_}
+use mathlib.Core.Bool.{Bool, true, false}
 use mathlib.Core.List.{List, [], _∷_}
-use mathlib.Core.Logic.{_⊎_, inl, inr}
-use Prim.Native.Nat.{ℕ, suc, _≤_, _<_}
+use mathlib.Core.Logic.{inl, inr}
+use Prim.Native.Nat.{ℕ, suc, _≤_}
 use native.Mathlib.Omega.{arith}
-use lib.Dec.{eqb, ltb}
+use lib.Dec.{ltb}
 use Rattle.std.proofs.shelf.Tests.{and-parts, and-from, eqb-true, eq-eqb, ltb-true, both-ways}
-use Rattle.subset.specs.Parts.{any, every, rising, same, some-of, has}
+use Rattle.subset.specs.Parts.{any, rising, same, some-of, has}
 use Rattle.subset.proofs.Lists.{Row, row-from, has-cons, has-head, has-tail, has-every}
 
 -- a Bool that is not true is false

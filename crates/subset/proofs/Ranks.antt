@@ -19,7 +19,7 @@ use Rattle.subset.proofs.Order.{subsets-same}
 use Rattle.subset.proofs.Changes.{upto, has-upto, has-filtered, has-drop, has-cut, some-of-upto, some-of-those, some-of-cut}
 use Rattle.subset.proofs.Digits.{digit-and, digit-or, digit-turned}
 use Rattle.subset.proofs.Words.{Small, has-members, some-of-members, members-le, bit-past, small-set, holds}
-use Rattle.subset.proofs.Blocks.{upto-add, bit-one, bit-block, told-word}
+use Rattle.subset.proofs.Blocks.{upto-add, bit-block, told-word}
 use Rattle.subset.proofs.Lowest.{has-word}
 
 -- how many members come before a place

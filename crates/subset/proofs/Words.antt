@@ -1,7 +1,7 @@
 -- Rows of words, their bits and their members.
 use mathlib.Core.Path.{_≡_, refl, sym, ap, ap₂, _∙_}
 use mathlib.Core.Logic.{_⊎_, inl, inr}
-use mathlib.Core.Bool.{Bool, true, false, _&&_, _||_, not, and-true, and-false, or-comm}
+use mathlib.Core.Bool.{true, false, _&&_, _||_, not, and-true, and-false, or-comm}
 use mathlib.Core.List.{List, [], _∷_}
 use Prim.Native.Nat.{ℕ, zero, suc, _+_, _-_, _*_, _/_, _%_, _^_, _≤_, _<_}
 use native.Mathlib.Omega.{arith}
@@ -11,7 +11,7 @@ use lib.ListN.{length, getD, set, replicate, length-set, length-replicate}
 use lib.Seq.{getD-set-same, getD-set-other}
 use Rattle.std.proofs.shelf.Counted.{length-map-counting, getD-map-counting, fill-by-all}
 use Rattle.std.proofs.shelf.Lists.{getD-past, getD-replicate, set-past}
-use Rattle.std.proofs.shelf.Tests.{lt-ltb, le-ltb, ltb-true, eq-eqb, ne-eqb, cases-eq, cases-lt, and-parts}
+use Rattle.std.proofs.shelf.Tests.{lt-ltb, ltb-true, eq-eqb, ne-eqb, cases-eq, cases-lt, and-parts}
 use Rattle.subset.specs.Parts.{every, all-parts, some-of, without, has}
 use Rattle.subset.specs.Row.{digit, bit, members, word-by, words-by, words-of, with-part}
 use Rattle.subset.specs.Says.{Holds}

@@ -2,14 +2,14 @@ use borrow.Author.Needs.{needs}
 use Rattle.reduce.specs.Own.{fault}
 use Rattle.reduce.proofs.fault.Needs as need
 
-pub returns-then-not-bare : need.returns-then-not-bare
+pub returns-then-not-fine : need.returns-then-not-fine
 unfolding fault
-returns-then-not-bare c = search needs
+returns-then-not-fine c = search needs
 
-pub returns-then-at-eq-IDLE : need.returns-then-at-eq-IDLE
+pub returns-then-header-eq-IDLE : need.returns-then-header-eq-IDLE
 unfolding fault
-returns-then-at-eq-IDLE c = search needs
+returns-then-header-eq-IDLE c = search needs
 
-pub returns-else-at-eq-IDLE : need.returns-else-at-eq-IDLE
+pub returns-else-header-eq-IDLE : need.returns-else-header-eq-IDLE
 unfolding fault
-returns-else-at-eq-IDLE c = search needs
+returns-else-header-eq-IDLE c = search needs

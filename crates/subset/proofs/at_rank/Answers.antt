@@ -1,10 +1,9 @@
 use native.Mathlib.Omega.{arith}
-use mathlib.Core.Path.{_≡_, refl, ap, _∙_}
+use mathlib.Core.Path.{refl, ap}
 use Prim.Native.Nat.{_+_, _*_}
-use lib.ListN.{length, getD}
-use mathlib.Core.List.{[], _∷_}
+use lib.ListN.{length}
 use Rattle.subset.specs.Parts.{those, all-parts}
-use Rattle.subset.specs.Row.{bit, members}
+use Rattle.subset.specs.Row.{bit}
 use Rattle.subset.proofs.Blocks.{told-word, length-upto-le, upto-all}
 use Rattle.subset.proofs.Find.{rank-found, rank-none}
 use Rattle.subset.proofs.at_rank.Needs as need

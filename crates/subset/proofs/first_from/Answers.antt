@@ -1,6 +1,6 @@
 use native.Mathlib.Omega.{arith}
 use mathlib.Core.Path.{_≡_, ap, _∙_}
-use Prim.Native.Nat.{ℕ, _+_, _*_, _^_, _-_, _<_, min}
+use Prim.Native.Nat.{ℕ, _*_, _^_, _-_, _<_, min}
 use lib.Bits.{bitAnd, and-le-l}
 use lib.ListN.{getD}
 use Rattle.subset.proofs.Find.{from-word, from-found, from-none, place-on, place-first, word-none, from-on}

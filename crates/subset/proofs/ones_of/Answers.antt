@@ -1,5 +1,5 @@
 use native.Mathlib.Omega.{arith}
-use mathlib.Core.Path.{sym, _∙_}
+use mathlib.Core.Path.{sym}
 use Rattle.std.proofs.shelf.Bits.{ones-le}
 use Rattle.subset.proofs.Blocks.{word-counted}
 use Rattle.subset.proofs.ones_of.Needs as need

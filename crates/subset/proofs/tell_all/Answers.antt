@@ -1,13 +1,13 @@
 use native.Mathlib.Omega.{arith}
 use mathlib.Core.Path.{_≡_, refl, sym, ap, ap₂, _∙_}
 use mathlib.Core.List.{List, [], _∷_, _++_, map}
-use Prim.Native.Nat.{ℕ, _+_, _*_, _≤_, _<_}
-use lib.ListN.{length, drop, getD, length-append, length-map}
+use Prim.Native.Nat.{ℕ, _+_, _*_}
+use lib.ListN.{length, drop, getD, length-map}
 use Rattle.subset.specs.Parts.{those, all-parts}
 use Rattle.subset.specs.Row.{bit, members}
 use Rattle.subset.specs.Says.{laid}
 use Rattle.subset.proofs.Changes.{upto}
-use Rattle.subset.proofs.Blocks.{upto-word, upto-all, length-up, told-word, members-up}
+use Rattle.subset.proofs.Blocks.{upto-word, upto-all, told-word, members-up}
 use Rattle.subset.proofs.Lowest.{laid-behind}
 use Rattle.subset.proofs.tell_all.Needs as need
 

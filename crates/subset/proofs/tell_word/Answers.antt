@@ -1,8 +1,8 @@
 use borrow.Author.Needs.{needs}
 use native.Mathlib.Omega.{arith}
 use mathlib.Core.Path.{_≡_, refl, sym, ap, _∙_}
-use mathlib.Core.List.{List, [], _∷_, map}
-use Prim.Native.Nat.{ℕ, _+_, _-_, _<_}
+use mathlib.Core.List.{[], _∷_, map}
+use Prim.Native.Nat.{_+_, _-_, _<_}
 use lib.Bits.{bitAnd, and-le-l}
 use lib.Count.{trailingZeros}
 use lib.ListN.{length}

@@ -1,5 +1,4 @@
 use mathlib.Core.Path.{sym, _∙_}
-use native.Mathlib.Omega.{arith}
 use Rattle.std.proofs.shelf.Tests.{ltb-false}
 use Rattle.subset.proofs.Words.{has-members, bit-past}
 use Rattle.subset.proofs.test.Needs as need
