@@ -15,7 +15,8 @@ demands-weaker More Less e weaker (steady, d) = (
   λ n f. let (many, none, some) = d n f in (many, none, λ h g. let (k, w, m) = some h g in (k, w, weaker n f _ w h m)),
 )
 
-square : (n : ℕ) → 7 * (n * n) + 20 * n + 14 ≤ 15 * (n + 1) * (n + 1)
+-- the sharp count is below the bound of the whole promise
+pub square : (n : ℕ) → 7 * (n * n) + 20 * n + 14 ≤ 15 * (n + 1) * (n + 1)
 square n = omega (arith, mul-assoc 15 (n + 1) (n + 1), mul-add (n + 1) n 1, add-mul n 1 n)
 
 pub sharp-whole : (e : Engine) → Sharp e → Whole e

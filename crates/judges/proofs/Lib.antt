@@ -1,0 +1,5 @@
+mod Rows
+mod Spelled
+mod Places
+mod Laws
+mod Stages

@@ -1,0 +1,5 @@
+pub mod Table
+pub mod Sets
+pub mod Rule
+pub mod Chained
+pub mod Driver
