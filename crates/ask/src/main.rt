@@ -1,4 +1,6 @@
 // Finds the parts that make something fail, by asking at a keyboard, or another program.
+#![tactic(auto)]
+
 ghost use Rattle.std.specs.Prelude.{◌≡◌, take, IfOk};
 
 use anyhow::anyhow;

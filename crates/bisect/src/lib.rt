@@ -1,4 +1,6 @@
 // The words of reducers: judges, lean subsets, engines and their runs; one pass over a subset that fails; and the entry that leaves one part out.
+#![tactic(auto)]
+
 ghost use Rattle.std.specs.Prelude.{◌≡◌, ◌≤◌, ◌++◌, length, drop};
 ghost use Rattle.subset.specs.Laws.{TakenOut};
 ghost use Rattle.subset.specs.Parts.{rising, without};

@@ -1,4 +1,6 @@
 // What shows whether a reducer keeps its promises: a recorder of runs, and an inspector of what was recorded.
+#![tactic(auto)]
+
 pub use exhaustive::is_monotone;
 pub use inspector::{End, Finding, Transcript, inspect};
 pub use recorder::{Machine, Recorded, Reducer, record, recordings_stand};

@@ -1,4 +1,6 @@
 // Judges to try the reducer with, and a driver that counts.
+#![tactic(auto)]
+
 ghost use Rattle.std.specs.Prelude.{◌≡◌, ℕ, List};
 ghost use Rattle.judges.specs.Rule.{RuleTurns};
 ghost use Rattle.judges.specs.Sets.{SetsGrow, SetsSpelled};

@@ -1,4 +1,6 @@
 // The reducer: one step over 72 lent numbers, and what it promises for every judge.
+#![tactic(auto)]
+
 ghost use Rattle.std.specs.Prelude.{◌≡◌, ◌<◌, ◌≤◌, true, ◌++◌, length, drop};
 ghost use Rattle.bisect.specs.Engine.{parts};
 ghost use Rattle.bisect.specs.Promise.{Sharp, Whole};

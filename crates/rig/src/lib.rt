@@ -1,4 +1,6 @@
 // What trials are made with: a generator, the digits of a number, one trial, and a tally of how many questions were asked.
+#![tactic(auto)]
+
 pub use desk::{Desk, Shown, Wrong};
 pub use numerals::digits;
 pub use random::Random;

@@ -1,4 +1,6 @@
 // Some of up to 4,096 parts as a lent row of bits: part p is bit p % 64 of word p / 64. A row has at most 64 words.
+#![tactic(auto)]
+
 ghost use Rattle.std.specs.Prelude.{◌≡◌, ℕ, ◌+◌, ◌-◌, ◌*◌, ◌/◌, ◌%◌, ◌^◌, ◌<◌, ◌≤◌, min, true, not, ◌&&◌, leb, List, [], ◌∷◌, ◌++◌, map, length, take, drop, ◌==◌, nat_le, nat_lt, slice_index};
 ghost use Rattle.subset.specs.Laws.{Changes, EqualSame, KnownByMembers, MembersRise, SameMembers, SubsetsStay, TakenOut, ToldBack, WordsSmall};
 ghost use Rattle.subset.specs.Parts.{all_parts, has, those, within, without};

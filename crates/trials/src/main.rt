@@ -1,4 +1,6 @@
 // Tries the reducer against every judge of few parts and against random ones, and shows that the inspector catches machines that fail.
+#![tactic(auto)]
+
 use anyhow::anyhow;
 use drawn::{Sizes, random_numbers, random_sets};
 use faulty::{AsksAgain, BothEnds, LostCount, NoHalf, TriesAll, TriesOnce, UnclearFails};

@@ -17,12 +17,12 @@ overflow-add-before c =
 
 pub returns-then-rank-before : goal.returns-then-rank-before
 returns-then-rank-before c =
-    rank_found c.args.words.now c.loop-i.i c.args.rank c.loop-i.before c.drop-lowest-word.result c.loop-i-test.true c.loop-i.invariant.0
-    c.loop-i.invariant.1 (omega (arith, c.if-rank-before.true, c.ones-of-here.ensures)) c.drop-lowest-word.type-inv c.drop-lowest-word.ensures
+    rank_found c.args.words.now c.loop-i.i c.args.rank c.loop-i.before c.drop_lowest-word.result c.loop-i-test.true c.loop-i.invariant.0
+    c.loop-i.invariant.1 (omega (arith, c.if-rank-before.true, c.ones_of-here.ensures)) c.drop_lowest-word.type_inv c.drop_lowest-word.ensures
 
 pub loop-i-preserved : goal.loop-i-preserved
 loop-i-preserved c =
-    (omega (arith, told_word c.args.words.now c.loop-i.i, c.loop-i.invariant.0, c.ones-of-here.ensures), c.if-rank-before.false)
+    (omega (arith, told_word c.args.words.now c.loop-i.i, c.loop-i.invariant.0, c.ones_of-here.ensures), c.if-rank-before.false)
 
 pub returns : goal.returns
 returns c =

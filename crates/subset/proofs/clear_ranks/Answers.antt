@@ -12,12 +12,12 @@ loop-i-init c =
     cutting_none c.args.from c.args.to c.args.words.now (λ i. (small i).fits) 0 refl
 
 -- in a turn, once the word, which was not yet changed, is cut and counted
-module _ (c : goal.After-ones-of-before) where
+module _ (c : goal.After-ones_of-before) where
   kept : get_or c.loop-i.words c.loop-i.i 0 ≡ get_or c.args.words.now c.loop-i.i 0
   kept = c.loop-i.invariant.rest c.loop-i.i (omega arith)
 
-  counted : c.ones-of-before.result ≡ length (members (get_or c.args.words.now c.loop-i.i 0 ∷ []))
-  counted = c.ones-of-before.ensures ∙ ap (λ w. length (members (w ∷ []))) kept
+  counted : c.ones_of-before.result ≡ length (members (get_or c.args.words.now c.loop-i.i 0 ∷ []))
+  counted = c.ones_of-before.ensures ∙ ap (λ w. length (members (w ∷ []))) kept
 
 pub overflow-add-before : goal.overflow-add-before
 overflow-add-before c =
@@ -27,10 +27,10 @@ overflow-add-before c =
 
 pub loop-i-preserved : goal.loop-i-preserved
 loop-i-preserved c =
-    cutting_more c.args.from c.args.to c.args.words.now c.loop-i.words c.loop-i.i c.loop-i.before c.cut-word.result c.loop-i.invariant
-    c.loop-i.auto.words (omega arith) c.cut-word.type-inv
-    (c.cut-word.ensures
-    ∙ ap₂ (λ a b. cut_out a b (members (get_or c.loop-i.words c.loop-i.i 0 ∷ []))) c.saturating-sub.ensures c.saturating-sub-in-loop-i.ensures
+    cutting_more c.args.from c.args.to c.args.words.now c.loop-i.words c.loop-i.i c.loop-i.before c.cut_word.result c.loop-i.invariant
+    c.loop-i.auto.words (omega arith) c.cut_word.type_inv
+    (c.cut_word.ensures
+    ∙ ap₂ (λ a b. cut_out a b (members (get_or c.loop-i.words c.loop-i.i 0 ∷ []))) c.saturating_sub.ensures c.saturating-sub-in-loop-i.ensures
     ∙ ap (λ w. cut_out (c.args.from - c.loop-i.before) (c.args.to - c.loop-i.before) (members (w ∷ []))) (kept c))
     (c.loop-i.before + c.ones-of-before.result) (ap (λ k. c.loop-i.before + k) (counted c))
 

@@ -5,7 +5,7 @@ use Rattle.subset.proofs.set_first.Goals as goal
 
 pub loop-i-preserved : goal.loop-i-preserved
 loop-i-preserved c =
-    let e : c.low.result ≡ first_word c.args.parts c.loop-i.i = c.low.ensures ∙ ap (λ n. 2 ^ min n 64 - 1) c.saturating-sub.ensures in
+    let e : c.low.result ≡ first_word c.args.parts c.loop-i.i = c.low.ensures ∙ ap (λ n. 2 ^ min n 64 - 1) c.saturating_sub.ensures in
     rw e (fill_by_more (first_word c.args.parts) c.loop-i.words c.loop-i.i 0 (omega arith) c.loop-i.invariant)
 
 pub returns : goal.returns

@@ -25,10 +25,10 @@ loop-i-preserved c =
     let i : ℕ = c.loop-i.i in
     let ys : List ℕ = map (λ b. 64 * i + b) (members (get_or ws i 0 ∷ [])) in
     let long : length ys ≡ length (members (get_or ws i 0 ∷ [])) = length-map (members (get_or ws i 0 ∷ [])) (λ b. 64 * i + b) in (
-      omega (arith, told_word ws i, c.loop-i.invariant.0, c.tell-word-told.ensures.end),
-      c.tell-word-told.ensures.row ∙ ap (λ o. laid o c.loop-i.told ys) c.loop-i.invariant.1
+      omega (arith, told_word ws i, c.loop-i.invariant.0, c.tell_word-told.ensures.end),
+      c.tell_word-told.ensures.row ∙ ap (λ o. laid o c.loop-i.told ys) c.loop-i.invariant.1
           ∙ laid_behind c.args.out.now (upto (bit ws) (64 * i)) ys c.loop-i.told c.loop-i.invariant.0
-          ∙ ap₂ (λ xs k. xs ++ drop k c.args.out.now) (sym (upto_word ws i)) (let z : c.loop-i.told + length ys ≡ c.tell-word-told.result = omega (arith, c.tell-word-told.ensures.end) in z),
+          ∙ ap₂ (λ xs k. xs ++ drop k c.args.out.now) (sym (upto_word ws i)) (let z : c.loop-i.told + length ys ≡ c.tell_word-told.result = omega (arith, c.tell_word-told.ensures.end) in z),
     )
 
 pub returns : goal.returns
