@@ -1,7 +1,7 @@
 -- Subsets are known by their members.
 use Rattle.std.proofs.Common.{◌≡◌, ℕ, suc, ◌≤◌, Bool, true, false, ltb, List, [], ◌∷◌, sym, refl, ◌∙◌, subst, ap₂, inl, inr, arith}
 use Rattle.std.proofs.lemmas.Bool.{and_parts, and_from, eqb-true, eq-eqb, ltb-true, both_ways}
-use Rattle.subset.specs.Parts.{any, rising, same, some_of, has}
+use Rattle.subset.specs.Parts.{any, same, some_of, has}
 use Rattle.subset.proofs.Lists.{Row, row_from, has_cons, has_head, has_tail, has_every}
 
 -- a Bool that is not true is false

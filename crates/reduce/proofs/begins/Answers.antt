@@ -11,14 +11,14 @@ unfolding ActTold stored act_by
 returns-then-n-gt-MOST c =
     does _ _ _ _ _ _
     (own_begins c.args.memory.now c.args.n c.requires.long ∙ ap (moved c.args.n (held c.args.memory.now)) (begins_many c.args.n (omega arith)))
-    (c.write-alone.ensures ∙ ap (λ h. kept h nowhere (held c.args.memory.now)) c.idle.ensures, (refl, refl))
+    (c.write_alone.ensures ∙ ap (λ h. kept h nowhere (held c.args.memory.now)) c.idle.ensures, (refl, refl))
 
 pub returns : goal.returns
 unfolding ActTold stored act_by
 returns c =
     does _ _ _ _ _ _
     (own_begins c.args.memory.now c.args.n c.requires.long ∙ ap (moved c.args.n (held c.args.memory.now)) (begins_few c.args.n (omega arith))) (
-      c.write-alone-2.ensures ∙ ap (kept (first_at c.args.n) nowhere) c.fill.ensures,
+      c.write_alone-2.ensures ∙ ap (kept (first_at c.args.n) nowhere) c.fill.ensures,
       (
         ap Ask (c.tell-told.ensures.count ∙ ap length c.fill.ensures),
         c.tell-told.ensures.told ∙ ap (λ ks. ks ++ drop (length ks) c.args.out.now) c.fill.ensures,

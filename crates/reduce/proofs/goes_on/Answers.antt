@@ -55,10 +55,10 @@ returns-then-header-eq-FIRST c =
     let h : Header = c.read-header.result in
     does _ _ _ _ _ _
     (goes m h c.read-header.ensures (first (held m)) c.args.fails false (at_first m h c.read-header.ensures c.if-header-eq-FIRST.true) c.if-fails.false)
-    (c.write-alone.ensures ∙ ap (λ g. kept g nowhere (held m)) c.idle.ensures, (refl, refl))
+    (c.write_alone.ensures ∙ ap (λ g. kept g nowhere (held m)) c.idle.ensures, (refl, refl))
 
-pub hears-cut-requires : goal.hears-cut-requires
-hears-cut-requires c =
+pub hears_cut-requires : goal.hears_cut-requires
+hears_cut-requires c =
     let m : List ℕ = c.args.memory.now in
     record {
       long = c.requires.long;
@@ -72,7 +72,7 @@ returns-then-header-eq-SEEK c =
     let m : List ℕ = c.args.memory.now in
     does _ _ _ _ _ _
     (ap (λ s. moved (header m).size (held m) (next s c.args.fails)) (at-seek m c.read-header.result c.read-header.ensures c.if-header-eq-SEEK.true))
-    c.hears-cut.ensures
+    c.hears_cut.ensures
 
 pub leave-requires : goal.leave-requires
 leave-requires c =
@@ -93,8 +93,8 @@ returns-then-fails-2 c =
     ∙ ap (λ ks. moved h.size ks (go_on (fresh ks))) (sym c.leave.ensures))
     c.passes-then-fails-2.ensures
 
-pub overflow-add-header : goal.overflow-add-header
-overflow-add-header c =
+pub overflow_add-header : goal.overflow_add-header
+overflow_add-header c =
     let m : List ℕ = c.args.memory.now in
     omega (
       arith,

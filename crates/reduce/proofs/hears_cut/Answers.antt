@@ -12,8 +12,8 @@ seeks-requires c =
     let m : List ℕ = c.args.memory.now in
     record {
       long = c.requires.long;
-      ahead = heard_placed (sought m) (held m) false c.requires.sane (pass c.heard-at-at.result (held m))
-          (ap (λ s. pass s (held m)) (c.heard-at-at.ensures ∙ ap (heard (cut_at (sought m) (length (held m))) (sought m)) c.if-not-fails.true));
+      ahead = heard_placed (sought m) (held m) false c.requires.sane (pass c.heard_at-at.result (held m))
+          (ap (λ s. pass s (held m)) (c.heard_at-at.ensures ∙ ap (heard (cut_at (sought m) (length (held m))) (sought m)) c.if-not-fails.true));
       room = c.requires.room;
     }
 
@@ -25,19 +25,19 @@ pub seeks-requires-2 : goal.seeks-requires-2
 seeks-requires-2 c =
     let m : List ℕ = c.args.memory.now in
     record {
-      long = c.keep-asked.auto.memory ∙ c.requires.long;
-      ahead = heard_placed (sought m) (held m) true c.requires.sane (pass c.heard-at-at.result (held c.keep-asked.new.memory))
-          (ap₂ (λ s ks. pass s ks) (c.heard-at-at.ensures ∙ ap (heard (cut_at (sought m) (length (held m))) (sought m)) c.if-not-fails.false) c.keep-asked.ensures);
+      long = c.keep_asked.auto.memory ∙ c.requires.long;
+      ahead = heard_placed (sought m) (held m) true c.requires.sane (pass c.heard_at-at.result (held c.keep_asked.new.memory))
+          (ap₂ (λ s ks. pass s ks) (c.heard_at-at.ensures ∙ ap (heard (cut_at (sought m) (length (held m))) (sought m)) c.if-not-fails.false) c.keep_asked.ensures);
       room = c.requires.room;
     }
 
 pub returns : goal.returns
 returns c =
     let m : List ℕ = c.args.memory.now in
-    let after : pass c.heard-at-at.result (held c.keep-asked.new.memory) ≡ kept m =
-    ap₂ (λ s ks. pass s ks) (c.heard-at-at.ensures ∙ ap (heard (cut_at (sought m) (length (held m))) (sought m)) c.if-not-fails.false) c.keep-asked.ensures in
+    let after : pass c.heard_at-at.result (held c.keep_asked.new.memory) ≡ kept m =
+    ap₂ (λ s ks. pass s ks) (c.heard_at-at.ensures ∙ ap (heard (cut_at (sought m) (length (held m))) (sought m)) c.if-not-fails.false) c.keep_asked.ensures in
     does _ _ _ _ _ _
     (ap (λ b. moved (header m).size (held m) (go_on (answered (cut_at (sought m) (length (held m))) (pass (sought m) (held m)) b))) c.if-not-fails.false
     ∙ ap₂ (λ (h : Header) (p : Pass). moved h.size (held m) (go_on p)) (sym c.read-size.ensures) (sym after)
-    ∙ moved_pass c.read-size.result.size (held m) (held c.keep-asked.new.memory) (pass c.heard-at-at.result (held c.keep-asked.new.memory)))
+    ∙ moved_pass c.read-size.result.size (held m) (held c.keep_asked.new.memory) (pass c.heard_at-at.result (held c.keep_asked.new.memory)))
     c.seeks-2.ensures

@@ -8,7 +8,7 @@ use Rattle.reduce.proofs.leave.Goals as goal
 pub returns : goal.returns
 returns c =
     let m : List ℕ = c.args.memory.now in
-    let ys : List ℕ = c.take-rank.new.words in
+    let ys : List ℕ = c.take_rank.new.words in
     let n : length (row m) ≡ 64 = row_length m c.requires.long in
     let size : length ys ≡ 64 = omega arith in
-    ap (λ ws. members ws) (row_put m ys c.requires.long size) ∙ c.take-rank.ensures
+    ap (λ ws. members ws) (row_put m ys c.requires.long size) ∙ c.take_rank.ensures

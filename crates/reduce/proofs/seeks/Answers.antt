@@ -11,7 +11,7 @@ pub returns-then-at-gt0 : goal.returns-then-at-gt0
 unfolding ActTold stored act_by
 returns-then-at-gt0 c =
     does _ _ _ _ _ _ (ap (moved c.args.size (held c.args.memory.now)) (pass_asks (pass c.args.at (held c.args.memory.now)) c.if-at-gt0.true))
-    (c.write.ensures, (ap Ask c.tell-cut-told.ensures.count, c.tell-cut-told.ensures.told))
+    (c.write.ensures, (ap Ask c.tell_cut-told.ensures.count, c.tell_cut-told.ensures.told))
 
 pub returns : goal.returns
 returns c =

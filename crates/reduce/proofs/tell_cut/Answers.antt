@@ -12,4 +12,4 @@ returns c =
     let can : askable c.args.at (row c.args.memory.now) c.args.out.now ≡ true =
     and_from _ _ (le-leb (length (row c.args.memory.now)) 64 (omega arith)) (and_from _ _ c.requires.ahead (le-leb 4096 (length c.args.out.now) c.requires.room)) in
     let told = subst (λ (b : Bool). Told b (asked c.args.at (held c.args.memory.now)) c.args.out.now c.question.result c.question.new.out) can c.question.ensures in
-    record { count = c.unwrap-or.ensures ∙ ap (λ o. unwrap_or o 0) told.0; told = told.1 }
+    record { count = c.unwrap_or.ensures ∙ ap (λ o. unwrap_or o 0) told.0; told = told.1 }

@@ -10,12 +10,12 @@ pub returns-then-index-count : goal.returns-then-index-count
 unfolding ActTold stored act_by
 returns-then-index-count c =
     does _ _ _ _ _ _ (ap (moved c.args.size (held c.args.memory.now)) (trial_asks c.args.index (held c.args.memory.now) (omega arith)))
-    (c.write-alone.ensures, (ap Ask c.tell-less-told.ensures.count, c.tell-less-told.ensures.told))
+    (c.write_alone.ensures, (ap Ask c.tell_less-told.ensures.count, c.tell_less-told.ensures.told))
 
 pub returns-else-index-count : goal.returns-else-index-count
 unfolding ActTold stored act_by
 returns-else-index-count c =
     does _ _ _ _ _ _ (ap (moved c.args.size (held c.args.memory.now)) (trial_ends c.args.index (held c.args.memory.now) (omega arith))) (
-      c.write-alone-else-index-count.ensures ∙ ap (λ h. kept h nowhere (held c.args.memory.now)) c.idle.ensures,
+      c.write_alone-else-index-count.ensures ∙ ap (λ h. kept h nowhere (held c.args.memory.now)) c.idle.ensures,
       (ap Rest c.tell-told.ensures.count, c.tell-told.ensures.told),
     )

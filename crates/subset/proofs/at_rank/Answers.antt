@@ -9,10 +9,10 @@ pub loop-i-init : goal.loop-i-init
 unfolding those all_parts
 loop-i-init c = (refl, omega arith)
 
-pub overflow-add-before : goal.overflow-add-before
-overflow-add-before c =
+pub overflow_add-before : goal.overflow_add-before
+overflow_add-before c =
     record {
-      fits = omega (arith, told_word c.args.words.now c.loop-i.i, length_upto_le (bit c.args.words.now) (64 * (c.loop-i.i + 1)), c.loop-i.invariant.0, c.ones-of-here.ensures);
+      fits = omega (arith, told_word c.args.words.now c.loop-i.i, length_upto_le (bit c.args.words.now) (64 * (c.loop-i.i + 1)), c.loop-i.invariant.0, c.ones_of-here.ensures);
     }
 
 pub returns-then-rank-before : goal.returns-then-rank-before

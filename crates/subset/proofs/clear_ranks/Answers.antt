@@ -19,8 +19,8 @@ module _ (c : goal.After-ones_of-before) where
   counted : c.ones_of-before.result ≡ length (members (get_or c.args.words.now c.loop-i.i 0 ∷ []))
   counted = c.ones_of-before.ensures ∙ ap (λ w. length (members (w ∷ []))) kept
 
-pub overflow-add-before : goal.overflow-add-before
-overflow-add-before c =
+pub overflow_add-before : goal.overflow_add-before
+overflow_add-before c =
     record {
       fits = omega (arith, counted c, c.loop-i.invariant.count, told_word c.args.words.now c.loop-i.i, length_upto_le (bit c.args.words.now) (64 * (c.loop-i.i + 1)));
     }
@@ -30,9 +30,9 @@ loop-i-preserved c =
     cutting_more c.args.from c.args.to c.args.words.now c.loop-i.words c.loop-i.i c.loop-i.before c.cut_word.result c.loop-i.invariant
     c.loop-i.auto.words (omega arith) c.cut_word.type_inv
     (c.cut_word.ensures
-    ∙ ap₂ (λ a b. cut_out a b (members (get_or c.loop-i.words c.loop-i.i 0 ∷ []))) c.saturating_sub.ensures c.saturating-sub-in-loop-i.ensures
+    ∙ ap₂ (λ a b. cut_out a b (members (get_or c.loop-i.words c.loop-i.i 0 ∷ []))) c.saturating_sub.ensures c.saturating_sub-in-loop-i.ensures
     ∙ ap (λ w. cut_out (c.args.from - c.loop-i.before) (c.args.to - c.loop-i.before) (members (w ∷ []))) (kept c))
-    (c.loop-i.before + c.ones-of-before.result) (ap (λ k. c.loop-i.before + k) (counted c))
+    (c.loop-i.before + c.ones_of-before.result) (ap (λ k. c.loop-i.before + k) (counted c))
 
 pub returns : goal.returns
 returns c =

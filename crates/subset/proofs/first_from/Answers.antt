@@ -10,7 +10,7 @@ pub returns-then-word-ne0 : goal.returns-then-word-ne0
 returns-then-word-ne0 c =
     let word : ℕ = bit_and (get_or c.args.words.now c.loop-i.i 0) (18446744073709551615 - c.low.result) in
     let e : c.low.result ≡ 2 ^ min (c.args.part - 64 * c.loop-i.i) 64 - 1 = c.low.ensures ∙ ap (λ n. 2 ^ min n 64 - 1) c.saturating_sub.ensures in
-    let small : word < 2 ^ 64 = omega (arith, and_le_l (get_or c.args.words.now c.loop-i.i 0) (18446744073709551615 - c.low.result), (c.type-inv.words c.loop-i.i).fits) in
+    let small : word < 2 ^ 64 = omega (arith, and_le_l (get_or c.args.words.now c.loop-i.i 0) (18446744073709551615 - c.low.result), (c.type_inv.words c.loop-i.i).fits) in
     let pos : 0 < word = omega (arith, c.if-word-ne0.true) in
     let here = λ (b : ℕ) (l : b < 64). from_word c.args.words.now c.args.part c.loop-i.i c.low.result b e c.low.type_inv l in
     from_found c.args.words.now c.args.part _

@@ -8,8 +8,8 @@ pub loop-word-init : goal.loop-word-init
 unfolding those all_parts
 loop-word-init c = refl
 
-pub overflow-add-sum : goal.overflow-add-sum
-overflow-add-sum c =
+pub overflow_add-sum : goal.overflow_add-sum
+overflow_add-sum c =
     record {
       fits = omega (arith, told_word c.args.words.now c.loop-word.word-index, length_upto_le (bit c.args.words.now) (64 * (c.loop-word.word-index + 1)));
     }

@@ -12,8 +12,8 @@ pub loop-i-init : goal.loop-i-init
 unfolding those all_parts
 loop-i-init c = (refl, refl)
 
-pub tell-word-told-requires : goal.tell-word-told-requires
-tell-word-told-requires c =
+pub tell_word-told-requires : goal.tell_word-told-requires
+tell_word-told-requires c =
     record {
       base = omega (arith, c.loop-i-test.true, c.requires.few);
       room = omega (arith, told_word c.args.words.now c.loop-i.i, members_up c.args.words.now c.loop-i.i c.loop-i-test.true, c.loop-i.invariant.0, c.loop-i.auto.out, c.requires.room);

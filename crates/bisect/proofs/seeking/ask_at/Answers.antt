@@ -12,13 +12,13 @@ returns c =
     let ks : List ℕ = members c.args.words.now in
     let zs : List ℕ = replicate {A = ℕ} 4096 0 in
     let told = subst (λ (b : Bool). Told b ks zs c.tell.result c.tell.new.out) (has_room c.args.words.now zs c.requires.few (omega arith)) c.tell.ensures in
-    let count : c.unwrap-or-count.result ≡ length ks = c.unwrap-or-count.ensures ∙ ap (λ o. unwrap_or o 0) told.0 in
+    let count : c.unwrap_or-count.result ≡ length ks = c.unwrap_or-count.ensures ∙ ap (λ o. unwrap_or o 0) told.0 in
     let sits = placed_true c.args.at (length ks) 4096 c.requires.ahead in
     let cut : c.choose-cut.result ≡ cut_at c.args.at (length ks) = c.choose-cut.ensures ∙ ap (cut_at c.args.at) count in
     let low : cut_at c.args.at (length ks) < c.args.at.row = cut_inside c.args.at ks sits.ahead in
     let r : ℕ = c.args.at.row in
     let spot : ℕ = c.choose-cut.result in
-    let k : ℕ = c.unwrap-or-count.result in
+    let k : ℕ = c.unwrap_or-count.result in
     record {
       count = asked_count ks (drop (length ks) zs) c.tell.new.out spot r k count (omega arith) (omega (arith, sits.inside)) told.1
           ∙ ap (λ n. length (cut_out n r ks)) cut;

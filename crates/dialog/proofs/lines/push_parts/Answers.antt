@@ -11,9 +11,9 @@ loop-part-preserved c =
     let parts = c.args.parts.now in
     let i = c.loop-part.part-index in
     let old = string_bytes c.loop-part.line in
-    let new = string_bytes c.push-part.new.line in
+    let new = string_bytes c.push_part.new.line in
     let step = at_drop_more behind_blanks parts i 0 c.loop-part-test.true in
-    moved old new (behind_blank (get_or parts i 0)) (behind_blanks (drop (i + 1) parts)) (behind_blanks (drop i parts)) c.in-ok-push-part.ensures step
+    moved old new (behind_blank (get_or parts i 0)) (behind_blanks (drop (i + 1) parts)) (behind_blanks (drop i parts)) c.in_ok-push_part.ensures step
     ∙ c.loop-part.invariant
 
 pub returns : goal.returns

@@ -10,7 +10,7 @@ pub returns-then-not-grown : goal.returns-then-not-grown
 returns-then-not-grown g c = record {
   same = c.grown.ensures.same ∙ c.loop-code.invariant.0;
   value =
-      sym (first_broken (grown c.args.parts (g.J.Judge.meaning c.args.judge.now)) (2 ^ c.args.parts) c.loop-code.code (omega (arith, c.loop-code-test.true, c.subsets-of-code-end.ensures))
+      sym (first_broken (grown c.args.parts (g.J.Judge.meaning c.args.judge.now)) (2 ^ c.args.parts) c.loop-code.code (omega (arith, c.loop-code-test.true, c.subsets_of-code-end.ensures))
       (ap (λ f. grown c.args.parts f (coded c.loop-code.code)) (sym c.loop-code.invariant.0) ∙ sym c.grown.ensures.value ∙ c.if-not-grown.true));
 }
 

@@ -10,7 +10,7 @@ pub returns-then-not-spares : goal.returns-then-not-spares
 returns-then-not-spares g c = record {
   same = c.spares.ensures.same ∙ c.loop-code.invariant.0;
   value =
-      sym (first_broken (spares (g.J.Judge.meaning c.args.judge.now) c.args.subset.now) (2 ^ c.args.parts) c.loop-code.code (omega (arith, c.loop-code-test.true, c.subsets-of-code-end.ensures))
+      sym (first_broken (spares (g.J.Judge.meaning c.args.judge.now) c.args.subset.now) (2 ^ c.args.parts) c.loop-code.code (omega (arith, c.loop-code-test.true, c.subsets_of-code-end.ensures))
       (ap (λ f. spares f c.args.subset.now (coded c.loop-code.code)) (sym c.loop-code.invariant.0) ∙ sym c.spares.ensures.value ∙ c.if-not-spares.true));
 }
 

@@ -4,9 +4,9 @@ use Rattle.inspect.specs.Exhaustive.{coded}
 use Rattle.judges.proofs.Shown.{told}
 use Rattle.inspect.proofs.exhaustive.tell_coded.Goals as goal
 
-pub returns-in-default : goal.returns-in-default
-returns-in-default c =
-    absurd (c.in-default.not-Some _ (told (c.args.code ∷ []) _ _ _ (omega arith) (omega (arith, members_le (c.args.code ∷ []), c.requires)) c.tell.ensures).0)
+pub returns-in_default : goal.returns-in_default
+returns-in_default c =
+    absurd (c.in_default.not-Some _ (told (c.args.code ∷ []) _ _ _ (omega arith) (omega (arith, members_le (c.args.code ∷ []), c.requires)) c.tell.ensures).0)
 
 pub returns : goal.returns
 returns c =

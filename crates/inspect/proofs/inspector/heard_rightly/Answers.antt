@@ -25,4 +25,4 @@ loop-exchange-preserved g c =
 
 pub returns : goal.returns
 unfolding every
-returns g c = record { same = c.loop-exchange.invariant.0; value = (let none = c.in-default.ensures in let e = c.loop-exchange.invariant.1 in rw none at e) }
+returns g c = record { same = c.loop-exchange.invariant.0; value = (let none = c.in_default.ensures in let e = c.loop-exchange.invariant.1 in rw none at e) }

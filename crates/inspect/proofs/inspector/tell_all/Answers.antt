@@ -2,9 +2,9 @@ use Rattle.std.proofs.Common.{◌≡◌, arith}
 use Rattle.inspect.proofs.Inspected.{told_all}
 use Rattle.inspect.proofs.inspector.tell_all.Goals as goal
 
-pub returns-in-default : goal.returns-in-default
-returns-in-default c =
-    absurd (c.in-default.not-Some _ (told_all c.args.parts _ _ _ _ _ _ c.requires.few c.requires.room c.fill.ensures.said (omega (arith, c.fill.auto.words)) c.fill.ensures.after c.tell.ensures).0)
+pub returns-in_default : goal.returns-in_default
+returns-in_default c =
+    absurd (c.in_default.not-Some _ (told_all c.args.parts _ _ _ _ _ _ c.requires.few c.requires.room c.fill.ensures.said (omega (arith, c.fill.auto.words)) c.fill.ensures.after c.tell.ensures).0)
 
 pub returns : goal.returns
 returns c =

@@ -8,32 +8,32 @@ use Rattle.inspect.proofs.recorder.record.Goals as goal
 pub loop-asked-init : goal.loop-asked-init
 loop-asked-init g c = (refl, going_begins _ _ _ _ _ _ c.begin-told.ensures.room)
 
-pub returns-in-default : goal.returns-in-default
-returns-in-default g c = record {
+pub returns-in_default : goal.returns-in_default
+returns-in_default g c = record {
   same = c.loop-asked.invariant.0;
   recorded =
-      going_ends _ _ _ _ _ _ _ _ _ _ _ _ _ _ _ c.begin-told.ensures.does c.loop-asked.invariant.1 (omega arith) (not_stopped _ _ _ _ _ c.in-default.not-Ask)
+      going_ends _ _ _ _ _ _ _ _ _ _ _ _ _ _ _ c.begin-told.ensures.does c.loop-asked.invariant.1 (omega arith) (not_stopped _ _ _ _ _ c.in_default.not-Ask)
       c.by.ensures.end c.by.ensures.left c.by.ensures.used;
 }
 
-pub slice-bounds-question-end : goal.slice-bounds-question-end
-slice-bounds-question-end g c = subst (λ (r : Told). Roomy r (length c.loop-asked.out)) c.in-Ask.is c.loop-asked.invariant.1.roomy
+pub slice_bounds-question-end : goal.slice_bounds-question-end
+slice_bounds-question-end g c = subst (λ (r : Told). Roomy r (length c.loop-asked.out)) c.in-Ask.is c.loop-asked.invariant.1.roomy
 
-pub slice-bounds-question-end-in-loop-asked : goal.slice-bounds-question-end-in-loop-asked
-slice-bounds-question-end-in-loop-asked g c =
+pub slice_bounds-question-end-in-loop-asked : goal.slice_bounds-question-end-in-loop-asked
+slice_bounds-question-end-in-loop-asked g c =
     sym (length-take-le _ _ (subst (λ (r : Told). Roomy r (length c.loop-asked.out)) c.in-Ask.is c.loop-asked.invariant.1.roomy))
 
 pub append-requires : goal.append-requires
 append-requires g c = c.loop-asked.invariant.1.used_Low
 
-pub returns-in-default-append : goal.returns-in-default-append
-returns-in-default-append g c =
-    let (still, full) = going_full _ _ _ _ _ _ _ _ c.says-answer.result c.args.limit _ _ _ _ _ c.in-Ask.is c.loop-asked.invariant.1 c.in-default-append.ensures in
+pub returns-in_default-append : goal.returns-in_default-append
+returns-in_default-append g c =
+    let (still, full) = going_full _ _ _ _ _ _ _ _ c.says-answer.result c.args.limit _ _ _ _ _ c.in-Ask.is c.loop-asked.invariant.1 c.in_default-append.ensures in
     record {
       same = c.says-answer.ensures.same ∙ c.loop-asked.invariant.0;
       recorded =
           going_ends _ _ _ _ _ _ _ _ _ _ _ _ _ _ _ c.begin-told.ensures.does still (omega arith) full
-          c.by-in-default-append.ensures.end c.by-in-default-append.ensures.left c.by-in-default-append.ensures.used;
+          c.by-in_default-append.ensures.end c.by-in_default-append.ensures.left c.by-in_default-append.ensures.used;
     }
 
 pub loop-asked-preserved : goal.loop-asked-preserved

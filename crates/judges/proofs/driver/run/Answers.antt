@@ -27,5 +27,5 @@ loop-course-smaller g c =
 pub returns : goal.returns
 returns g c = record {
   same = c.loop-course.invariant.0;
-  ends = rw c.ended.ensures (goes_ends _ _ _ _ _ _ _ _ _ _ _ c.begin-course.auto.memory c.begin-course.auto.out c.loop-course.auto.out c.begin-course.ensures.told c.in-default.not-Ask c.loop-course.invariant.1);
+  ends = rw c.ended.ensures (goes_ends _ _ _ _ _ _ _ _ _ _ _ c.begin-course.auto.memory c.begin-course.auto.out c.loop-course.auto.out c.begin-course.ensures.told c.in_default.not-Ask c.loop-course.invariant.1);
 }

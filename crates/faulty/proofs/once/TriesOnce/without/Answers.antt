@@ -9,5 +9,5 @@ pub returns : goal.returns
 returns c =
     let held = c.args.self.held ∷ [] in
     let gone = without c.args.part (members held) in
-    let after = subst (λ (b : Bool). After b held gone c.take-out.new.words) c.take-out.ensures.said c.take-out.ensures.after in
-    subst (λ (ws : List ℕ). After (ltb c.args.part 64) held gone ws) (single _ c.take-out.auto.words) after
+    let after = subst (λ (b : Bool). After b held gone c.take_out.new.words) c.take_out.ensures.said c.take_out.ensures.after in
+    subst (λ (ws : List ℕ). After (ltb c.args.part 64) held gone ws) (single _ c.take_out.auto.words) after

@@ -7,21 +7,21 @@ use Rattle.rig.proofs.desk.Desk.try_reducer.Goals as goal
 pub returns-in-Left : goal.returns-in-Left
 returns-in-Left g c =
     let first = c.inspected-finding.ensures.same in
-    let second = c.is-known-monotone.ensures.same ∙ first in
+    let second = c.is_known-monotone.ensures.same ∙ first in
     record {
       same = c.run.ensures.same ∙ second;
       tried =
-          shows _ _ _ c.args.told c.is-known-monotone.result (Some c.in-Left.count) c.in-Left.asked c.inspected-finding.new.self.memory c.inspected-finding.new.self.left _ _ second (omega arith) (omega arith) c.in-Left.ensures.ends
-          (λ e. subst (λ (f : Judge). Known c.args.told c.args.parts f) first (c.is-known-monotone.ensures.known e));
+          shows _ _ _ c.args.told c.is_known-monotone.result (Some c.in-Left.count) c.in-Left.asked c.inspected-finding.new.self.memory c.inspected-finding.new.self.left _ _ second (omega arith) (omega arith) c.in-Left.ensures.ends
+          (λ e. subst (λ (f : Judge). Known c.args.told c.args.parts f) first (c.is_known-monotone.ensures.known e));
     }
 
 pub returns-in-Sound : goal.returns-in-Sound
 returns-in-Sound g c =
     let first = c.inspected-finding.ensures.same in
-    let second = c.is-known-monotone.ensures.same ∙ first in
+    let second = c.is_known-monotone.ensures.same ∙ first in
     record {
       same = c.run.ensures.same ∙ second;
       tried =
-          shows _ _ _ c.args.told c.is-known-monotone.result None c.in-Sound.asked c.inspected-finding.new.self.memory c.inspected-finding.new.self.left _ _ second (omega arith) (omega arith) c.in-Sound.ensures.ends
-          (λ e. subst (λ (f : Judge). Known c.args.told c.args.parts f) first (c.is-known-monotone.ensures.known e));
+          shows _ _ _ c.args.told c.is_known-monotone.result None c.in-Sound.asked c.inspected-finding.new.self.memory c.inspected-finding.new.self.left _ _ second (omega arith) (omega arith) c.in-Sound.ensures.ends
+          (λ e. subst (λ (f : Judge). Known c.args.told c.args.parts f) first (c.is_known-monotone.ensures.known e));
     }
