@@ -8,7 +8,8 @@ use std::fmt;
 fn push_part(line: &mut String, part: u64) -> fmt::Result
     ensures { OnOk result (string_bytes line.new ≡ string_bytes line.old ++ behind_blank part) }
 {
-    write!(line, " {part}")
+    write!(line, " {part}")?;
+    Ok(())
 }
 
 fn push_parts(line: &mut String, parts: &[u64]) -> fmt::Result

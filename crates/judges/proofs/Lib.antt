@@ -1,5 +1,5 @@
 pub mod Rows
-mod Spelled
+pub mod SetRows
 pub mod Listed
 pub mod Shown
 mod Places

@@ -1,13 +1,16 @@
 -- The lists of a row, one after the other.
-use Rattle.std.proofs.Common.{◌≡◌, ℕ, zero, suc, ◌<◌, ◌≤◌, List, [], ◌∷◌, length, take, drop, refl, ap, ◌∙◌, ap₂, not-suc-le-zero, arith, length-drop, take_at}
+use Rattle.std.proofs.Common.{◌≡◌, ℕ, ◌<◌, List, [], ◌∷◌, length, take, drop, refl, ap, ◌∙◌, ap₂, arith, length-drop, take_at}
 use Rattle.std.proofs.lemmas.List.{drop_at, nil_from_length}
+use Rattle.judges.specs.Sets.{SetsSpelled}
 use Rattle.judges.specs.Spelled.{lists_of, spelled, ListsSpelled}
-use Rattle.judges.proofs.Spelled.{sets_spelled}
+use Rattle.judges.proofs.SetRows.{sets_spelled}
 
 lists_none : lists_of [] ≡ []
+unfolding SetsSpelled
 lists_none = (sets_spelled 0 []).0
 
 lists_cons : (n : ℕ) (row : List ℕ) → lists_of (n ∷ row) ≡ take n row ∷ lists_of (drop n row)
+unfolding SetsSpelled
 lists_cons n row = (sets_spelled n row).1
 
 pub read_back : (lists : List (List ℕ)) → lists_of (spelled lists) ≡ lists

@@ -1,5 +1,5 @@
 -- Where a run stands while it goes on: with what is still to come it makes up the whole run, which keeps the promises.
-use Rattle.std.proofs.Common.{◌≡◌, ℕ, zero, suc, ◌+◌, ◌*◌, ◌<◌, ◌≤◌, Bool, true, false, cond, ◌&&◌, eqb, leb, List, [], ◌∷◌, length, take, sym, refl, ap, ◌∙◌, subst, ap₂, inl, inr, mul-le-mul, arith}
+use Rattle.std.proofs.Common.{◌≡◌, ℕ, zero, suc, ◌+◌, ◌*◌, ◌<◌, ◌≤◌, Bool, true, false, cond, ◌&&◌, eqb, leb, List, [], ◌∷◌, length, take, sym, refl, ap, ◌∙◌, ap₂, inl, inr, mul-le-mul, arith}
 use Rattle.std.proofs.lemmas.Bool.{both_ways, and_from, and_parts, eqb-true, leb-true, eq-eqb, le-leb, lt-leb, ne_eqb, cases_lt, cases_Bool, cond_both}
 use Rattle.subset.specs.Parts.{every, all_parts, some_of}
 use Rattle.bisect.specs.Judge.{Judge, fails, Monotone}
@@ -17,7 +17,9 @@ use Rattle.reduce.proofs.Stored.{step_said}
 use Rattle.reduce.proofs.Steady.{steady}
 use Rattle.reduce.proofs.Reduces.{sharp}
 use Rattle.judges.specs.Kept.{Kept}
-use Rattle.judges.specs.Driver.{most, end_of, ended_as, run_told, RunSays}
+use Rattle.judges.specs.Driver.{most, end_of, Ends, RunSays}
+use Rattle.judges.specs.declared.driver.Ended.{Ended}
+use Rattle.judges.specs.Whole.{ended_as, run_told, Tells, RunTells}
 use Rattle.judges.proofs.Shown.{shown}
 
 -- ---- what each subset that is asked keeps holds of all that was asked
@@ -41,16 +43,20 @@ there : (n : ℕ) (f : Judge) (k : ℕ) → every (some_of n) (run_of k n own f)
 unfolding every
 there n f k = runs_keep n f (λ qs. every (some_of n) qs ≡ true) (λ q qs. and_from (some_of n q) (every (some_of n) qs)) k own.start (parts n) [] refl
 
-pub whole_run : (n : ℕ) (f : Judge) → (k : ℕ) × Kept (Monotone f n) n f (run_of k n own f)
+pub whole_run : (n : ℕ) (f : Judge) → (k : ℕ) × Kept (Monotone f n) n f (run_of k n own f) × (length (run_of k n own f).asked ≤ most)
 unfolding Demands LeanLeast
 whole_run n f =
     elim (cases_lt 4096 n) [
       | inl l ↦
-          let (k, e) = (sharp.1 n f).0 l in
-          (k, record { many = λ _. e; sound = λ h. absurd (omega arith); left = λ h. absurd (omega arith); there = there n f k })
+          let (k, e) = (sharp.1 n f).0 l in (
+            k,
+            record { many = λ _. e; sound = λ h. absurd (omega arith); left = λ h. absurd (omega arith); there = there n f k },
+            omega (arith, ap (λ (R : Ran). length R.asked) e),
+          )
       | inr l ↦ elim (cases_Bool (fails f (all_parts n))) [
         | inl d ↦
-            let (k, w, c) = (sharp.1 n f).2 l d in (
+            let (k, w, c) = (sharp.1 n f).2 l d in
+            let small : n * n ≤ 4096 * 4096 = mul-le-mul l l in (
               k,
               record {
                 many = λ h. absurd (omega arith);
@@ -58,10 +64,14 @@ whole_run n f =
                 left = λ _ _. record { lessened = w; bounded = omega (arith, c.0, square n); few = λ x. (c.1 x, lean_least n f _ x w.some w.slim) };
                 there = there n f k;
               },
+              omega (arith, c.0, small),
             )
         | inr d ↦
-            let (k, e) = (sharp.1 n f).1 l d in
-            (k, record { many = λ h. absurd (omega arith); sound = λ _ _. e; left = λ _ b. absurd (both_ways _ d b); there = there n f k })
+            let (k, e) = (sharp.1 n f).1 l d in (
+              k,
+              record { many = λ h. absurd (omega arith); sound = λ _ _. e; left = λ _ b. absurd (both_ways _ d b); there = there n f k },
+              omega (arith, ap (λ (R : Ran). length R.asked) e),
+            )
       ]
     ]
 
@@ -71,18 +81,15 @@ record Closed (R : Ran) : Type 0 where
   refused : R.end ≡ 2 → length R.asked ≡ 0
   few : length R.asked ≤ most
 
-closed_by : (n : ℕ) (f : Judge) (R : Ran) → Kept (Monotone f n) n f R → Closed R
-closed_by n f R w =
+closed_by : (n : ℕ) (f : Judge) (R : Ran) → Kept (Monotone f n) n f R → length R.asked ≤ most → Closed R
+closed_by n f R w few =
     elim (cases_lt 4096 n) [
-      | inl l ↦ subst (λ (S : Ran). Closed S) (sym (w.many l)) (record { told = omega arith; refused = λ z. refl; few = omega arith })
+      | inl l ↦ let e = w.many l in record { told = rw e (omega arith); refused = λ z. rw e refl; few = few }
       | inr l ↦ elim (cases_Bool (fails f (all_parts n))) [
         | inl d ↦
-            let once : n + 1 ≤ 4097 = omega arith in
-            let times : 15 * (n + 1) ≤ 15 * 4097 = omega arith in
-            let at_most : 15 * (n + 1) * (n + 1) ≤ 15 * 4097 * 4097 = mul-le-mul times once in
             let v = w.left l d in
-            record { told = omega (arith, v.lessened.done); refused = λ z. absurd (omega (arith, v.lessened.done)); few = omega (arith, v.bounded) }
-        | inr d ↦ subst (λ (S : Ran). Closed S) (sym (w.sound l d)) (record { told = omega arith; refused = λ z. absurd (omega (arith, z)); few = omega arith })
+            record { told = omega (arith, v.lessened.done); refused = λ z. absurd (omega (arith, v.lessened.done)); few = few }
+        | inr d ↦ let e = w.sound l d in record { told = rw e (omega arith); refused = λ z. absurd (let b = rw e at z in omega (arith, b)); few = few }
       ]
     ]
 
@@ -131,7 +138,7 @@ module _ (n : ℕ) (f : Judge) where
   whole = run_of (whole_run n f).0 n own f
 
   closed : Closed whole
-  closed = closed_by n f whole (whole_run n f).1
+  closed = closed_by n f whole (whole_run n f).1 (whole_run n f).2
 
   -- after these questions, the last first, it asks of the row's first so many, and with the acts that are still to come, of which there is one at least,
   -- it makes up the whole run
@@ -256,21 +263,46 @@ module _ (n : ℕ) (f : Judge) where
       let ready : fits m 1 out ≡ true = and_from _ _ (eq-eqb _ _ a.long) (le-leb _ _ (omega arith)) in
       rw c (take count out ∷ qs, omega arith, λ z. absurd (omega arith), turn n f count qs m out v out r m₁ out₁ a h ready t)
 
+  -- what is told of the whole run says how it ended
+  tells_ends : (out : List ℕ) (r : Ended) (m₁ out₁ : List ℕ) → Tells n f out r m₁ out₁ → Ends n f out r m₁ out₁
+  tells_ends out r m₁ out₁ v = record {
+    many = λ l. (v.told ∙ ap ended_as (v.kept.many l), v.many l);
+    sound = λ l b. v.told ∙ ap ended_as (v.kept.sound l b);
+    left = λ l b.
+        let w = v.kept.left l b in
+        let R = run_of v.acts n own f in
+        record {
+          subset = R.rest;
+          asked = length R.asked;
+          told = v.told ∙ rw w.lessened.done;
+          row = v.row;
+          some = w.lessened.some;
+          slim = w.lessened.slim;
+          bounded = w.bounded;
+          few = w.few;
+        };
+    long = v.long;
+    idle = v.idle;
+  }
+
   pub goes_ends : (m₀ m₁ out₀ o : List ℕ) (r : Told) (told : Told) (asked : ℕ) (m out : List ℕ) → length m₁ ≡ length m₀ → length o ≡ length out₀ → length out ≡ length o
       → StepSays (fits m₀ 0 out₀) m₀ 0 n out₀ r m₁ o → ((k : ℕ) → told ≡ Ask k → ⊥) → Goes (fits m₁ 0 o) n f m₁ o told asked m out
-      → RunSays (fits m₀ 0 out₀) n f m₀ out₀ (end_of told asked) m out
+      → RunSays (fits m₀ 0 out₀) n f m₀ out₀ (end_of told asked) m out × RunTells (fits m₀ 0 out₀) n f out₀ (end_of told asked) m out
   goes_ends m₀ m₁ out₀ o r told asked m out a b d t not-ask s = go (fits m₀ 0 out₀) refl t (rw (fits_alike m₀ m₁ out₀ o a b) at s)
     where
-      go : (c : Bool) → fits m₀ 0 out₀ ≡ c → StepSays c m₀ 0 n out₀ r m₁ o → Goes c n f m₁ o told asked m out → RunSays c n f m₀ out₀ (end_of told asked) m out
+      go : (c : Bool) → fits m₀ 0 out₀ ≡ c → StepSays c m₀ 0 n out₀ r m₁ o → Goes c n f m₁ o told asked m out
+          → RunSays c n f m₀ out₀ (end_of told asked) m out × RunTells c n f out₀ (end_of told asked) m out
       go true e t (qs, c, fresh, asks k x w) = absurd (not-ask k x)
-      go true e (x, t) (qs, c, fresh, ended w) = record {
-        acts = (whole_run n f).0;
-        told = ap (end_of told) c ∙ w.tells;
-        kept = (whole_run n f).1;
-        row = w.row;
-        many = λ l.
-            fresh (c ∙ ap (λ (R : Ran). length R.asked) (sym w.on ∙ (whole_run n f).1.many l)) ∙ many_row n m₀ r out₀ o (fitting m₀ out₀ e).0 t l;
-        long = d ∙ b;
-        idle = w.idle;
-      }
-      go false e (p, q, t) (x, y, z) = (ap (λ (u : Told). end_of u asked) x, y ∙ q, z ∙ t)
+      go true e (x, t) (qs, c, fresh, ended w) =
+          let v : Tells n f out₀ (end_of told asked) m out = record {
+            acts = (whole_run n f).0;
+            told = ap (end_of told) c ∙ w.tells;
+            kept = (whole_run n f).1;
+            row = w.row;
+            many = λ l.
+                fresh (c ∙ ap (λ (R : Ran). length R.asked) (sym w.on ∙ (whole_run n f).1.many l)) ∙ many_row n m₀ r out₀ o (fitting m₀ out₀ e).0 t l;
+            long = d ∙ b;
+            idle = w.idle;
+          } in
+          (tells_ends out₀ (end_of told asked) m out v, v)
+      go false e (p, q, t) (x, y, z) = let u = ap (λ (u : Told). end_of u asked) x in ((u, y ∙ q, z ∙ t), u)

@@ -44,9 +44,9 @@ impl Course {
     fn ask<J: Judge>(self, judge: &mut J, count: u64, memory: &mut [u64], out: &mut [u64]) -> Course
         requires room { count ≤ length out.old }
         requires few { self.asked < most }
-        ensures same { meaning judge.new ≡ meaning judge.old }
+        ensures same { J.meaning judge.new ≡ J.meaning judge.old }
         ensures more { result.asked ≡ self.asked + 1 }
-        ensures told { StepSays (fits memory.old 1 out.old) memory.old 1 (meaning judge.old (take count out.old)) out.old result.told memory.new out.new }
+        ensures told { StepSays (fits memory.old 1 out.old) memory.old 1 (J.meaning judge.old (take count out.old)) out.old result.told memory.new out.new }
     {
         let verdict = judge.says(&out[..count as usize]);
         Course {
@@ -69,9 +69,9 @@ impl Course {
 
 // Runs the reducer against a judge to the end, from any memory.
 pub fn run<J: Judge>(judge: &mut J, parts: u64, memory: &mut [u64], out: &mut [u64]) -> Ended
-    ensures same { meaning judge.new ≡ meaning judge.old }
-    ensures ends { RunSays (fits memory.old 0 out.old) parts (meaning judge.old) memory.old out.old result memory.new out.new }
-    ensures whole { RunTells (fits memory.old 0 out.old) parts (meaning judge.old) out.old result memory.new out.new }
+    ensures same { J.meaning judge.new ≡ J.meaning judge.old }
+    ensures ends { RunSays (fits memory.old 0 out.old) parts (J.meaning judge.old) memory.old out.old result memory.new out.new }
+    ensures whole { RunTells (fits memory.old 0 out.old) parts (J.meaning judge.old) out.old result memory.new out.new }
 {
     let mut course = Course::begin(parts, memory, out);
     while let Told::Ask(count) = course.told {

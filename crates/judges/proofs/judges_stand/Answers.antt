@@ -1,7 +1,7 @@
 use Rattle.judges.proofs.Laws.{sets_grow, rule_turns}
 use Rattle.judges.proofs.Places.{own_place}
 use Rattle.judges.proofs.Listed.{lists_spelled}
-use Rattle.judges.proofs.Spelled.{sets_spelled}
+use Rattle.judges.proofs.SetRows.{sets_spelled}
 use Rattle.judges.proofs.judges_stand.Goals as goal
 
 pub returns : goal.returns

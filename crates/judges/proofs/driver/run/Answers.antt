@@ -25,7 +25,6 @@ loop-course-smaller g c =
     let z : most - c.ask-course.result.asked < most - c.loop-course.course.asked = omega arith in z
 
 pub returns : goal.returns
-returns g c = record {
-  same = c.loop-course.invariant.0;
-  ends = rw c.ended.ensures (goes_ends _ _ _ _ _ _ _ _ _ _ _ c.begin-course.auto.memory c.begin-course.auto.out c.loop-course.auto.out c.begin-course.ensures.told c.in_default.not-Ask c.loop-course.invariant.1);
-}
+returns g c =
+    let both = goes_ends _ _ _ _ _ _ _ _ _ _ _ c.begin-course.auto.memory c.begin-course.auto.out c.loop-course.auto.out c.begin-course.ensures.told c.in_default.not-Ask c.loop-course.invariant.1 in
+    record { same = c.loop-course.invariant.0; ends = rw c.ended.ensures both.0; whole = rw c.ended.ensures both.1 }

@@ -1,5 +1,5 @@
 use Rattle.std.proofs.Common.{sym, ◌∙◌}
-use Rattle.judges.proofs.Spelled.{one_found, one_past, one_none, others_fewer}
+use Rattle.judges.proofs.SetRows.{one_found, one_past, one_none, others_fewer}
 use Rattle.judges.proofs.sets.has_one.Goals as goal
 
 pub returns-then-all_in : goal.returns-then-all_in
