@@ -29,7 +29,7 @@ fn say(rt: &HostRuntime, line: &str) -> io::Result<()> {
 
 fn next_line(lines: &mut Lines, ended: &str) -> anyhow::Result<Vec<u8>> {
     let Some(line) = lines.next() else {
-        return Err(ended.into());
+        return Err(anyhow!("{ended}"));
     };
     Ok(line?)
 }
@@ -102,7 +102,7 @@ fn size_text(rt: &HostRuntime, lines: &mut Lines) -> anyhow::Result<Vec<u8>> {
         return next_line(lines, "the input ended before the number of parts");
     };
     if args.next().is_some() {
-        return Err(USAGE.into());
+        return Err(anyhow!("{USAGE}"));
     }
     Ok(given.into_bytes())
 }

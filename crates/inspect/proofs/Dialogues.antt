@@ -10,7 +10,7 @@ use Rattle.reduce.specs.declared.Told.TheVariants.{Ask, Rest, Sound, TooMany, No
 use Rattle.inspect.specs.Inspector.{question_of, recorded}
 use Rattle.inspect.specs.Recorder.{Steps, Does, end_by, left_by, Dialogue, ReducerKept}
 use Rattle.inspect.specs.declared.recorder.Machine.{Machine}
-use Rattle.judges.specs.Driver.{run_told}
+use Rattle.judges.specs.Whole.{run_told}
 use Rattle.judges.proofs.Stages.{whole_run, Stage, asks, ended, begun, turn}
 
 -- memory and row fitted: if they had not, the row would be as it was, and it is wide

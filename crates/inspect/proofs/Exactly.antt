@@ -1,19 +1,16 @@
 -- Nothing is found exactly where the answers are the judge's and the promises are kept.
-use Rattle.std.proofs.Common.{◌≡◌, ℕ, zero, suc, ◌+◌, ◌*◌, ◌<◌, ◌≤◌, Bool, true, false, cond, not, ◌&&◌, ◌||◌, eqb, leb, ◌≢◌, ◌⊎◌, List, [], ◌∷◌, ◌++◌, map, reverse, length, sym, refl, ap, ◌∙◌, subst, inl, inr, arith, length-append}
-use mathlib.Core.Bool.{and_comm}
-use Rattle.std.proofs.lemmas.List.{length-map, length-reverse, reverse-append, reverse-reverse, nil_from_length}
-use Rattle.std.proofs.lemmas.Bool.{and_parts, and_from, or_cases, or_left, or_right, both_ways, cases_Bool, cases_lt, not-true, not_from_false, eq-eqb, eqb-true, le-leb, leb-true, leb-false, ltb-true}
-use Rattle.subset.specs.Parts.{every, all_parts, some_of, has}
-use Rattle.subset.proofs.Lists.{Row, row_from, length_all}
-use Rattle.subset.proofs.Order.{subsets_same}
-use Rattle.subset.proofs.Changes.{bool_ext, has_all, some_of_all}
+use Rattle.std.proofs.Common.{◌≡◌, ℕ, ◌+◌, ◌*◌, ◌<◌, ◌≤◌, Bool, true, false, cond, not, ◌&&◌, eqb, leb, List, [], ◌∷◌, ◌++◌, map, reverse, length, sym, refl, ap, ◌∙◌, inl, inr, arith}
+use Rattle.std.proofs.lemmas.List.{length-map, length-reverse, reverse-append, nil_from_length}
+use Rattle.std.proofs.lemmas.Bool.{and_parts, and_from, or_cases, or_left, or_right, both_ways, cases_Bool, cases_lt, not-true, not_from_false, eq-eqb, eqb-true, le-leb, leb-true, leb-false}
+use Rattle.subset.specs.Parts.{every, all_parts, some_of}
+use Rattle.subset.proofs.Lists.{length_all}
 use Rattle.bisect.specs.Judge.{Judge, fails, lean, Monotone, Least}
-use Rattle.bisect.specs.Engine.{Ran, ran, told_left, told_sound, told_refused}
+use Rattle.bisect.specs.Engine.{Ran, ran, told_sound, told_refused}
 use Rattle.bisect.specs.Promise.{LeanLeast}
 use Rattle.bisect.proofs.Least.{lean_least}
 use Rattle.inspect.specs.Exhaustive.{grows, spared}
 use Rattle.judges.specs.Kept.{Leaves, Kept}
-use Rattle.inspect.specs.Inspector.{answer_of, question_of, end_number, rest_of, recorded, rightly, there, check, of_many, of_sound, known, of_monotone, of_count, all_needed, of_left, of_end, finding, Known, Clean, Exact}
+use Rattle.inspect.specs.Inspector.{answer_of, question_of, recorded, rightly, there, check, of_many, of_sound, known, of_monotone, all_needed, of_left, of_end, finding, Known, Clean, Exact}
 use Rattle.inspect.specs.declared.inspector.End.{End}
 use Rattle.inspect.specs.declared.inspector.End.TheVariants as end
 use Rattle.inspect.specs.declared.inspector.Finding.{Finding}

@@ -6,7 +6,7 @@ use Rattle.subset.specs.Says.{laid}
 use Rattle.bisect.specs.Judge.{Judge}
 use Rattle.bisect.specs.Engine.{Event, parts, said, Act, ask, left, sound, refused}
 use Rattle.reduce.specs.Own.{own, fault}
-use Rattle.reduce.specs.Entry.{ActTold, Heard, ByKind, StepSays, fits}
+use Rattle.reduce.specs.Entry.{ActTold, Heard, ByKind, StepSays}
 use Rattle.reduce.specs.declared.Told.{Told}
 use Rattle.reduce.specs.declared.Told.TheVariants.{Ask, Rest, Sound, TooMany, No}
 use Rattle.judges.specs.Spelled.{spelled}

@@ -1,5 +1,5 @@
 -- A transcript, and what an inspector finds in it. Assumes nothing: these are definitions.
-use Rattle.std.specs.Prelude.{◌≡◌, ℕ, ◌+◌, ◌*◌, ◌<◌, ◌≤◌, Bool, true, false, cond, not, ◌&&◌, ◌||◌, ◌⊎◌, List, [], ◌∷◌, map, reverse, length, drop, ◌==◌, nat_le, slice_index}
+use Rattle.std.specs.Prelude.{◌≡◌, ℕ, ◌+◌, ◌*◌, ◌<◌, ◌≤◌, Bool, true, cond, not, ◌&&◌, ◌||◌, ◌⊎◌, List, [], ◌∷◌, map, reverse, length, drop, ◌==◌, nat_le, slice_index}
 use Rattle.subset.specs.Parts.{every, all_parts, some_of, without}
 use Rattle.bisect.specs.Judge.{Judge, fails, Monotone}
 use Rattle.bisect.specs.Engine.{Ran, ran, told_left, told_sound, told_refused, still_asks}

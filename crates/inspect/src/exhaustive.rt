@@ -32,8 +32,8 @@ fn tell_coded(code: u64, row: &mut [u64]) -> usize
 
 // Whether the subset with a number fails.
 fn code_fails<J: Judge>(judge: &mut J, code: u64) -> bool
-    ensures same { meaning judge.new ≡ meaning judge.old }
-    ensures value { result ≡ fails (meaning judge.old) (coded code) }
+    ensures same { J.meaning judge.new ≡ J.meaning judge.old }
+    ensures value { result ≡ fails (J.meaning judge.old) (coded code) }
 {
     let mut row = [0; 64];
     let count = tell_coded(code, &mut row);
@@ -42,8 +42,8 @@ fn code_fails<J: Judge>(judge: &mut J, code: u64) -> bool
 
 // Whether the subset with a number fails, if it contains another.
 fn fails_above<J: Judge>(judge: &mut J, code: u64, larger: u64) -> bool
-    ensures same { meaning judge.new ≡ meaning judge.old }
-    ensures value { result ≡ larger_fails (meaning judge.old) (coded code) (coded larger) }
+    ensures same { J.meaning judge.new ≡ J.meaning judge.old }
+    ensures value { result ≡ larger_fails (J.meaning judge.old) (coded code) (coded larger) }
 {
     if is_within(&[code], &[larger]) {
         return code_fails(judge, larger);
@@ -53,8 +53,8 @@ fn fails_above<J: Judge>(judge: &mut J, code: u64, larger: u64) -> bool
 
 // Whether what contains a subset fails, of the subsets below a number.
 fn all_above<J: Judge>(judge: &mut J, code: u64, end: u64) -> bool
-    ensures same { meaning judge.new ≡ meaning judge.old }
-    ensures value { result ≡ of_first end (larger_fails (meaning judge.old) (coded code)) }
+    ensures same { J.meaning judge.new ≡ J.meaning judge.old }
+    ensures value { result ≡ of_first end (larger_fails (J.meaning judge.old) (coded code)) }
 {
     for larger in 0..end {
         if !fails_above(judge, code, larger) {
@@ -67,8 +67,8 @@ fn all_above<J: Judge>(judge: &mut J, code: u64, end: u64) -> bool
 // Whether a subset doesn't fail, or all that contains it does.
 fn grown<J: Judge>(judge: &mut J, code: u64, parts: u64) -> bool
     requires { parts ≤ 9 }
-    ensures same { meaning judge.new ≡ meaning judge.old }
-    ensures value { result ≡ grown parts (meaning judge.old) (coded code) }
+    ensures same { J.meaning judge.new ≡ J.meaning judge.old }
+    ensures value { result ≡ grown parts (J.meaning judge.old) (coded code) }
 {
     if code_fails(judge, code) {
         return all_above(judge, code, subsets_of(parts));
@@ -79,8 +79,8 @@ fn grown<J: Judge>(judge: &mut J, code: u64, parts: u64) -> bool
 // Whether failing is monotone.
 pub(crate) fn grows<J: Judge>(judge: &mut J, parts: u64) -> bool
     requires { parts ≤ 9 }
-    ensures same { meaning judge.new ≡ meaning judge.old }
-    ensures value { result ≡ grows parts (meaning judge.old) }
+    ensures same { J.meaning judge.new ≡ J.meaning judge.old }
+    ensures value { result ≡ grows parts (J.meaning judge.old) }
 {
     for code in 0..subsets_of(parts) {
         if !grown(judge, code, parts) {
@@ -92,8 +92,8 @@ pub(crate) fn grows<J: Judge>(judge: &mut J, parts: u64) -> bool
 
 // Whether the subset with a number is no failing one that lies strictly within another.
 fn spares<J: Judge>(judge: &mut J, subset: &[u64], code: u64) -> bool
-    ensures same { meaning judge.new ≡ meaning judge.old }
-    ensures value { result ≡ spares (meaning judge.old) subset.now (coded code) }
+    ensures same { J.meaning judge.new ≡ J.meaning judge.old }
+    ensures value { result ≡ spares (J.meaning judge.old) subset.now (coded code) }
 {
     let mut row = [0; 64];
     let count = tell_coded(code, &mut row);
@@ -107,8 +107,8 @@ fn spares<J: Judge>(judge: &mut J, subset: &[u64], code: u64) -> bool
 // Whether nothing smaller within a subset fails.
 pub(crate) fn spared<J: Judge>(judge: &mut J, subset: &[u64], parts: u64) -> bool
     requires { parts ≤ 9 }
-    ensures same { meaning judge.new ≡ meaning judge.old }
-    ensures value { result ≡ spared parts (meaning judge.old) subset.now }
+    ensures same { J.meaning judge.new ≡ J.meaning judge.old }
+    ensures value { result ≡ spared parts (J.meaning judge.old) subset.now }
 {
     for code in 0..subsets_of(parts) {
         if !spares(judge, subset, code) {
@@ -120,8 +120,8 @@ pub(crate) fn spared<J: Judge>(judge: &mut J, subset: &[u64], parts: u64) -> boo
 
 // Whether failing is monotone, found by trying; none is said of more than nine parts.
 pub fn is_monotone<J: Judge>(judge: &mut J, parts: u64) -> Option<bool>
-    ensures same { meaning judge.new ≡ meaning judge.old }
-    ensures said { MonotoneSays (nat_le parts 9) parts (meaning judge.old) result }
+    ensures same { J.meaning judge.new ≡ J.meaning judge.old }
+    ensures said { MonotoneSays (nat_le parts 9) parts (J.meaning judge.old) result }
 {
     if parts > FEW {
         return None;

@@ -85,8 +85,8 @@ fn parted(exchange: &[u64]) -> (u64, &[u64])
 
 // Whether every answer is what the judge says.
 fn heard_rightly<J: Judge>(judge: &mut J, exchanges: &[u64]) -> bool
-    ensures same { meaning judge.new ≡ meaning judge.old }
-    ensures value { result ≡ every (rightly (meaning judge.old)) (lists_of exchanges.now) }
+    ensures same { J.meaning judge.new ≡ J.meaning judge.old }
+    ensures value { result ≡ every (rightly (J.meaning judge.old)) (lists_of exchanges.now) }
 {
     let mut rest = exchanges;
     while let Some((exchange, others)) = first_list(rest) {
@@ -145,8 +145,8 @@ fn tell_all(parts: u64, row: &mut [u64]) -> usize
 // Whether all parts together fail.
 fn all_fail<J: Judge>(judge: &mut J, parts: u64) -> bool
     requires { parts ≤ 4096 }
-    ensures same { meaning judge.new ≡ meaning judge.old }
-    ensures value { result ≡ fails (meaning judge.old) (all_parts parts) }
+    ensures same { J.meaning judge.new ≡ J.meaning judge.old }
+    ensures value { result ≡ fails (J.meaning judge.old) (all_parts parts) }
 {
     let mut row = [0; 4096];
     let count = tell_all(parts, &mut row);
@@ -170,8 +170,8 @@ fn tell_but(subset: &[u64], part: u64, row: &mut [u64]) -> usize
 fn can_go<J: Judge>(judge: &mut J, subset: &[u64], part: u64) -> bool
     requires rises { rising subset.now ≡ true }
     requires short { length subset.now ≤ 4096 }
-    ensures same { meaning judge.new ≡ meaning judge.old }
-    ensures value { result ≡ fails (meaning judge.old) (without part subset.now) }
+    ensures same { J.meaning judge.new ≡ J.meaning judge.old }
+    ensures value { result ≡ fails (J.meaning judge.old) (without part subset.now) }
 {
     let mut row = [0; 4096];
     let count = tell_but(subset, part, &mut row);
@@ -182,8 +182,8 @@ fn can_go<J: Judge>(judge: &mut J, subset: &[u64], part: u64) -> bool
 fn all_needed<J: Judge>(judge: &mut J, subset: &[u64]) -> bool
     requires rises { rising subset.now ≡ true }
     requires short { length subset.now ≤ 4096 }
-    ensures same { meaning judge.new ≡ meaning judge.old }
-    ensures value { result ≡ all_needed (meaning judge.old) subset.now }
+    ensures same { J.meaning judge.new ≡ J.meaning judge.old }
+    ensures value { result ≡ all_needed (J.meaning judge.old) subset.now }
 {
     for p in subset {
         if can_go(judge, subset, *p) {
@@ -226,16 +226,16 @@ fn of_sound(exchanges: &[u64], parts: u64) -> Finding
 
 // Whether failing is known to be monotone: one was told so, or it can be tried.
 fn is_known<J: Judge>(judge: &mut J, parts: u64, told: bool) -> bool
-    ensures same { meaning judge.new ≡ meaning judge.old }
-    ensures value { result ≡ known told parts (meaning judge.old) }
+    ensures same { J.meaning judge.new ≡ J.meaning judge.old }
+    ensures value { result ≡ known told parts (J.meaning judge.old) }
 {
     told || parts <= FEW && grows(judge, parts)
 }
 
 fn of_monotone<J: Judge>(judge: &mut J, parts: u64, asked: u64, left: &[u64]) -> Finding
     requires { length left.now ≤ 4096 }
-    ensures same { meaning judge.new ≡ meaning judge.old }
-    ensures value { result ≡ of_monotone parts (meaning judge.old) asked left.now }
+    ensures same { J.meaning judge.new ≡ J.meaning judge.old }
+    ensures value { result ≡ of_monotone parts (J.meaning judge.old) asked left.now }
 {
     if asked > 14 * (left.len() as u64 + 1) {
         return Finding::ManyIfMonotone;
@@ -249,8 +249,8 @@ fn of_monotone<J: Judge>(judge: &mut J, parts: u64, asked: u64, left: &[u64]) ->
 fn of_count<J: Judge>(judge: &mut J, parts: u64, told: bool, asked: u64, left: &[u64]) -> Finding
     requires few { parts ≤ 4096 }
     requires short { length left.now ≤ 4096 }
-    ensures same { meaning judge.new ≡ meaning judge.old }
-    ensures value { result ≡ of_count told parts (meaning judge.old) asked left.now }
+    ensures same { J.meaning judge.new ≡ J.meaning judge.old }
+    ensures value { result ≡ of_count told parts (J.meaning judge.old) asked left.now }
 {
     if asked > 15 * (parts + 1) * (parts + 1) {
         return Finding::TooMany;
@@ -263,8 +263,8 @@ fn of_count<J: Judge>(judge: &mut J, parts: u64, told: bool, asked: u64, left: &
 
 fn of_left<J: Judge>(judge: &mut J, parts: u64, told: bool, asked: u64, left: &[u64]) -> Finding
     requires { parts ≤ 4096 }
-    ensures same { meaning judge.new ≡ meaning judge.old }
-    ensures value { result ≡ of_left told parts (meaning judge.old) asked left.now }
+    ensures same { J.meaning judge.new ≡ J.meaning judge.old }
+    ensures value { result ≡ of_left told parts (J.meaning judge.old) asked left.now }
 {
     if !is_subset(left, parts) {
         return Finding::NoSubset;
@@ -283,8 +283,8 @@ fn of_left<J: Judge>(judge: &mut J, parts: u64, told: bool, asked: u64, left: &[
 
 fn of_end<J: Judge>(judge: &mut J, parts: u64, told: bool, transcript: Transcript) -> Finding
     requires { parts ≤ 4096 }
-    ensures same { meaning judge.new ≡ meaning judge.old }
-    ensures value { result ≡ of_end told parts (meaning judge.old) (lists_of transcript.entry.exchanges.now) transcript.entry.end transcript.entry.left.now }
+    ensures same { J.meaning judge.new ≡ J.meaning judge.old }
+    ensures value { result ≡ of_end told parts (J.meaning judge.old) (lists_of transcript.entry.exchanges.now) transcript.entry.end transcript.entry.left.now }
 {
     match transcript.end {
         End::Left => of_left(
@@ -302,8 +302,8 @@ fn of_end<J: Judge>(judge: &mut J, parts: u64, told: bool, transcript: Transcrip
 
 // The first promise that is broken.
 fn first_broken<J: Judge>(judge: &mut J, parts: u64, told: bool, transcript: Transcript) -> Finding
-    ensures same { meaning judge.new ≡ meaning judge.old }
-    ensures value { result ≡ finding told parts (meaning judge.old) (lists_of transcript.entry.exchanges.now) transcript.entry.end transcript.entry.left.now }
+    ensures same { J.meaning judge.new ≡ J.meaning judge.old }
+    ensures value { result ≡ finding told parts (J.meaning judge.old) (lists_of transcript.entry.exchanges.now) transcript.entry.end transcript.entry.left.now }
 {
     if !heard_rightly(judge, transcript.exchanges) {
         return Finding::Misheard;
@@ -319,9 +319,9 @@ fn first_broken<J: Judge>(judge: &mut J, parts: u64, told: bool, transcript: Tra
 
 // Finds the first promise that a run against a judge broke. `told` says that failing is monotone; up to nine parts that is tried, too.
 pub fn inspect<J: Judge>(judge: &mut J, parts: u64, told: bool, transcript: Transcript) -> Finding
-    ensures same { meaning judge.new ≡ meaning judge.old }
-    ensures first { result ≡ finding told parts (meaning judge.old) (lists_of transcript.entry.exchanges.now) transcript.entry.end transcript.entry.left.now }
-    ensures exact { Exact told parts (meaning judge.old) (lists_of transcript.entry.exchanges.now) transcript.entry.end transcript.entry.left.now result }
+    ensures same { J.meaning judge.new ≡ J.meaning judge.old }
+    ensures first { result ≡ finding told parts (J.meaning judge.old) (lists_of transcript.entry.exchanges.now) transcript.entry.end transcript.entry.left.now }
+    ensures exact { Exact told parts (J.meaning judge.old) (lists_of transcript.entry.exchanges.now) transcript.entry.end transcript.entry.left.now result }
 {
     first_broken(judge, parts, told, transcript)
 }

@@ -103,8 +103,8 @@ pub fn record<R: Reducer, J: Judge>(
     row: &mut [u64],
     out: &mut [u64],
 ) -> Recorded
-    ensures same { meaning judge.new ≡ meaning judge.old }
-    ensures recorded { RecordSays does (meaning judge.old) reducer.old count limit result reducer.new row.new out.new }
+    ensures same { J.meaning judge.new ≡ J.meaning judge.old }
+    ensures recorded { RecordSays R.does (J.meaning judge.old) reducer.old count limit result reducer.new row.new out.new }
 {
     let mut told = reducer.begin(count, out);
     let mut used = 0;

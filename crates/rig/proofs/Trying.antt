@@ -5,7 +5,7 @@ use Rattle.bisect.specs.Judge.{Judge}
 use Rattle.bisect.specs.Engine.{Event, Ran, told_left, told_sound, told_refused}
 use Rattle.reduce.specs.Entry.{fits}
 use Rattle.reduce.specs.declared.Told.{Told}
-use Rattle.judges.specs.Driver.{ended_as, Ends, RunSays}
+use Rattle.judges.specs.Whole.{ended_as, Tells, RunTells}
 use Rattle.judges.specs.declared.driver.Ended.{Ended}
 use Rattle.judges.specs.declared.driver.Ended.TheVariants.{Left, Sound, TooMany, Unfit}
 use Rattle.inspect.specs.Inspector.{finding, Known}
@@ -55,9 +55,9 @@ shown_is None asked R e = go (eqb R.end told_left) (eqb R.end told_sound) (eqb R
     go false false false h = absurd (let z : ◌≡◌ {A = ℕ} 0 1 = cc in omega arith)
 
 pub shows : (f j : Judge) (n : ℕ) (told b : Bool) (l : Option ℕ) (asked : ℕ) (memory out m₁ out₁ : List ℕ) → j ≡ f → length memory ≡ 72 → 4096 ≤ length out
-    → RunSays (fits memory 0 out) n j memory out (ended_by l asked) m₁ out₁ → (b ≡ true → Known told n f) → Shows f n told (record { left = l; asked = asked; monotone = b })
+    → RunTells (fits memory 0 out) n j out (ended_by l asked) m₁ out₁ → (b ≡ true → Known told n f) → Shows f n told (record { left = l; asked = asked; monotone = b })
 shows f j n told b l asked memory out m₁ out₁ same long room says known =
     let ready : fits memory 0 out ≡ true = and_from _ _ (eq-eqb _ _ long) (le-leb _ _ room) in
-    let ends = subst (λ (h : Judge). Ends n h out (ended_by l asked) m₁ out₁) same (subst (λ (x : Bool). RunSays x n j memory out (ended_by l asked) m₁ out₁) ready says) in
+    let ends = subst (λ (h : Judge). Tells n h out (ended_by l asked) m₁ out₁) same (subst (λ (x : Bool). RunTells x n j out (ended_by l asked) m₁ out₁) ready says) in
     let (left, count) = shown_is l asked _ ends.told in
     record { acts = ends.acts; kept = ends.kept; left = left; asked = count; monotone = known }

@@ -1,5 +1,5 @@
 -- How many judges there were of a kind, and the most questions that one of them was asked. Assumes nothing: these are definitions.
-use Rattle.std.specs.Prelude.{ℕ, ◌+◌, ◌-◌, ◌^◌, min, max, Bool, true, false, List, get_or, set}
+use Rattle.std.specs.Prelude.{ℕ, ◌+◌, ◌-◌, ◌^◌, min, max, Bool, true, false}
 use Rattle.rig.specs.declared.tally.Count.{Count}
 use Rattle.rig.specs.declared.tally.Row.{Row}
 

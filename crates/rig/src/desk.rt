@@ -39,8 +39,8 @@ pub enum Wrong {
 
 // Whether failing is known to be monotone: one was told so, or it was tried.
 fn is_known<J: Judge>(judge: &mut J, parts: u64, told: bool) -> bool
-    ensures same { meaning judge.new ≡ meaning judge.old }
-    ensures known { result ≡ true → Known told parts (meaning judge.old) }
+    ensures same { J.meaning judge.new ≡ J.meaning judge.old }
+    ensures known { result ≡ true → Known told parts (J.meaning judge.old) }
 {
     told || is_monotone(judge, parts).unwrap_or(false)
 }
@@ -64,8 +64,8 @@ impl Desk {
         parts: u64,
         told: bool,
     ) -> Finding
-        ensures same { meaning judge.new ≡ meaning judge.old }
-        ensures found { Inspected does (meaning judge.old) reducer.old parts told result reducer.new }
+        ensures same { J.meaning judge.new ≡ J.meaning judge.old }
+        ensures found { Inspected R.does (J.meaning judge.old) reducer.old parts told result reducer.new }
     {
         let recorded = record(
             reducer,
@@ -90,8 +90,8 @@ impl Desk {
         parts: u64,
         told: bool,
     ) -> Result<Shown, Wrong>
-        ensures same { meaning judge.new ≡ meaning judge.old }
-        ensures tried { Tried (meaning judge.old) parts told result }
+        ensures same { J.meaning judge.new ≡ J.meaning judge.old }
+        ensures tried { Tried (J.meaning judge.old) parts told result }
     {
         let finding = self.inspected(&mut Machine::new(), judge, parts, told);
         let Finding::Nothing = finding else {

@@ -1,4 +1,4 @@
-use Rattle.std.proofs.Common.{Bool, leb, Some, Decides, sym, refl, subst, arith}
+use Rattle.std.proofs.Common.{Bool, Some, Decides, sym, refl, subst, arith}
 use Rattle.std.proofs.lemmas.Bool.{le-leb}
 use Rattle.bisect.specs.Judge.{Monotone}
 use Rattle.inspect.specs.Exhaustive.{MonotoneSays}

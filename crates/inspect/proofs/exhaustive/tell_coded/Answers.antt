@@ -1,4 +1,4 @@
-use Rattle.std.proofs.Common.{◌≡◌, [], ◌∷◌, length, sym, arith}
+use Rattle.std.proofs.Common.{◌≡◌, [], ◌∷◌, length, arith}
 use Rattle.subset.proofs.Words.{members_le}
 use Rattle.inspect.specs.Exhaustive.{coded}
 use Rattle.judges.proofs.Shown.{told}

@@ -24,7 +24,7 @@ slice_bounds-question-end-in-loop-asked g c =
     sym (length-take-le _ _ (subst (λ (r : Told). Roomy r (length c.loop-asked.out)) c.in-Ask.is c.loop-asked.invariant.1.roomy))
 
 pub append-requires : goal.append-requires
-append-requires g c = c.loop-asked.invariant.1.used_Low
+append-requires g c = c.loop-asked.invariant.1.used_low
 
 pub returns-in_default-append : goal.returns-in_default-append
 returns-in_default-append g c =

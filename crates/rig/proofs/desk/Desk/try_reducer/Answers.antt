@@ -11,7 +11,7 @@ returns-in-Left g c =
     record {
       same = c.run.ensures.same ∙ second;
       tried =
-          shows _ _ _ c.args.told c.is_known-monotone.result (Some c.in-Left.count) c.in-Left.asked c.inspected-finding.new.self.memory c.inspected-finding.new.self.left _ _ second (omega arith) (omega arith) c.in-Left.ensures.ends
+          shows _ _ _ c.args.told c.is_known-monotone.result (Some c.in-Left.count) c.in-Left.asked c.inspected-finding.new.self.memory c.inspected-finding.new.self.left _ _ second (omega arith) (omega arith) c.in-Left.ensures.whole
           (λ e. subst (λ (f : Judge). Known c.args.told c.args.parts f) first (c.is_known-monotone.ensures.known e));
     }
 
@@ -22,6 +22,6 @@ returns-in-Sound g c =
     record {
       same = c.run.ensures.same ∙ second;
       tried =
-          shows _ _ _ c.args.told c.is_known-monotone.result None c.in-Sound.asked c.inspected-finding.new.self.memory c.inspected-finding.new.self.left _ _ second (omega arith) (omega arith) c.in-Sound.ensures.ends
+          shows _ _ _ c.args.told c.is_known-monotone.result None c.in-Sound.asked c.inspected-finding.new.self.memory c.inspected-finding.new.self.left _ _ second (omega arith) (omega arith) c.in-Sound.ensures.whole
           (λ e. subst (λ (f : Judge). Known c.args.told c.args.parts f) first (c.is_known-monotone.ensures.known e));
     }
