@@ -12,6 +12,7 @@ use std::alloc::Global;
 use std::env::Args;
 use std::io::{BufRead, BufReader, ErrorKind, Stdin, Write};
 use std::iter::Skip;
+use std::process::ExitCode;
 use std::{env, io};
 
 const USAGE: &str =
@@ -107,7 +108,14 @@ fn size_text(rt: &HostRuntime, lines: &mut Lines) -> anyhow::Result<Vec<u8>> {
     Ok(given.into_bytes())
 }
 
-fn run(rt: &HostRuntime) -> anyhow::Result<()> {
+// An error keeps only so much of a text, so what is no number is shown here.
+fn refuse(rt: &HostRuntime, given: &[u8]) -> anyhow::Result<ExitCode> {
+    let text = String::from_utf8_lossy(rt.alloc(), given)?;
+    eprintln!(rt; "ask: no number of parts: '{text}'")?;
+    Ok(ExitCode::FAILURE)
+}
+
+fn run(rt: &HostRuntime) -> anyhow::Result<ExitCode> {
     let heap = rt.alloc();
     let mut lines = BufReader::new(heap, rt.stdin())?.split(heap, b'\n');
     let given = size_text(rt, &mut lines)?;
@@ -116,18 +124,19 @@ fn run(rt: &HostRuntime) -> anyhow::Result<()> {
     let told = match reading::size_in(given.as_slice()) {
         Size::Parts(count) => step(&mut memory, 0, count, &mut out),
         Size::TooMany => Told::TooMany,
-        Size::NoNumber => {
-            let text = String::from_utf8_lossy(heap, given.as_slice())?;
-            return Err(anyhow!(format!(in heap; "no number of parts: '{text}'")?));
-        }
+        Size::NoNumber => return refuse(rt, given.as_slice()),
     };
-    talk(rt, &mut lines, told, &mut memory, &mut out)
+    talk(rt, &mut lines, told, &mut memory, &mut out)?;
+    Ok(ExitCode::SUCCESS)
 }
 
-fn main(rt: HostRuntime) -> anyhow::Result<()> {
-    let Err(error) = run(&rt) else {
-        return Ok(());
-    };
-    eprintln!(rt; "ask: {error}")?;
-    Err(error)
+fn main(rt: HostRuntime) -> ExitCode {
+    match run(&rt) {
+        Ok(code) => code,
+        Err(error) => {
+            // Where the message can't be shown, the status still tells.
+            let _ = eprintln!(rt; "ask: {error}");
+            ExitCode::FAILURE
+        }
+    }
 }

@@ -57,7 +57,7 @@ impl Board {
     ) -> anyhow::Result<()> {
         let shown = match desk.try_reducer(judge, self.parts, told) {
             Ok(shown) => shown,
-            Err(Wrong::Broken(finding)) => return Err(words(finding).into()),
+            Err(Wrong::Broken(finding)) => return Err(anyhow!("{}", words(finding))),
             Err(Wrong::TooMany) => return Err(anyhow!("too many parts")),
         };
         let place = match shown.left {
