@@ -2,7 +2,7 @@
 use Rattle.std.proofs.Common.{◌≡◌, ℕ, zero, suc, ◌<◌, ◌≤◌, Bool, true, false, ltb, ◌⊎◌, List, [], ◌∷◌, length, get_or, take, sym, refl, ap, ◌∙◌, subst, inl, inr, le_of_suc-le-suc, not-suc-le-zero, arith}
 use Rattle.std.proofs.lemmas.Bool.{and_from, ltb-true, lt-ltb, le-ltb, eq-eqb, both_ways, or_cases, or_left, or_right}
 use Rattle.subset.specs.Parts.{any, those, same, some_of, has}
-use Rattle.subset.proofs.Lists.{Row, row_from, row_getD, those_in, those_out, has_append, has_get_d, has_those, has_every, every_has}
+use Rattle.subset.proofs.Lists.{Row, row_from, row_get_or, those_in, those_out, has_append, has_get_or, has_those, has_every, every_has}
 use Rattle.subset.proofs.Order.{row_has, same_is, must_false}
 use Rattle.bisect.specs.Judge.{Judge, fails}
 use Rattle.bisect.specs.Search.{keep, Pass, question, answered}
@@ -82,7 +82,7 @@ before_take b n (k ∷ ks) zero h w = those_out (λ z. ltb z k) k ks (le-ltb k k
     none k [] b n h w = unfold those in refl
     none k (j ∷ ks) b n h w = rw (those_out (λ z. ltb z k) j ks (le-ltb j k (omega arith))) (none k ks (suc j) n (omega arith) w.2)
 before_take b n (k ∷ ks) (suc r) h w =
-    let g : suc k ≤ get_or ks r 0 = row_getD (suc k) n ks r (le_of_suc-le-suc h) w.2 in
+    let g : suc k ≤ get_or ks r 0 = row_get_or (suc k) n ks r (le_of_suc-le-suc h) w.2 in
     rw (those_in (λ z. ltb z (get_or ks r 0)) k ks (lt-ltb k (get_or ks r 0) g))
     (ap {B = List ℕ} (λ l. k ∷ l) (before_take (suc k) n ks r (le_of_suc-le-suc h) w.2))
 
@@ -94,7 +94,7 @@ keep_within n c r ks h l e =
       every_has (has ks) (keep c r ks) (keep_has c r ks),
       (
         x,
-        has_get_d ks c g,
+        has_get_or ks c g,
         must_false _ (λ w.
             elim (has_append (take c ks) (above r ks) x (rw (keep_above c r ks) at w)) [
               | inl a ↦ let q = has_those (λ z. ltb z x) ks x (subst (λ (l : List ℕ). has l x ≡ true) (sym (before_take 0 n ks c g (row_from n ks e))) a) in

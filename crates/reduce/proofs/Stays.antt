@@ -2,7 +2,7 @@
 use Rattle.std.proofs.Common.{◌≡◌, ℕ, zero, suc, ◌+◌, ◌<◌, ◌≤◌, Bool, true, false, not, ltb, List, [], ◌∷◌, length, get_or, take, refl, ap, ◌∙◌, le_of_suc-le-suc, not-suc-le-zero, arith, take_all, take-suc}
 use Rattle.std.proofs.lemmas.Bool.{and_from, ltb-true, ltb-false, not_from_false, cond_both}
 use Rattle.subset.specs.Parts.{every, some_of, without, has}
-use Rattle.subset.proofs.Lists.{every_cons, every_append, has_get_d, without_some, length_without}
+use Rattle.subset.proofs.Lists.{every_cons, every_append, has_get_or, without_some, length_without}
 use Rattle.bisect.specs.Judge.{Judge, fails, lean, Monotone}
 use Rattle.bisect.specs.Search.{Pass, fresh, question, answered}
 use Rattle.bisect.proofs.Keep.{above, above_all, length_keep}
@@ -24,7 +24,7 @@ slow_mono (suc a) zero h = absurd (not-suc-le-zero h)
 slow_mono (suc a) (suc b) h = omega (arith, slow_mono a b (le_of_suc-le-suc h), tri_mono a b (le_of_suc-le-suc h))
 
 pub less_shorter : (i : ℕ) (ks : List ℕ) → i < length ks → length (less i ks) < length ks
-less_shorter i ks h = length_without (get_or ks i 0) ks (has_get_d ks i h)
+less_shorter i ks h = length_without (get_or ks i 0) ks (has_get_or ks i h)
 
 -- ks fail, and none of the first i can be left out; if failing is monotone, none at all
 pub record Trying (n : ℕ) (f : Judge) (i : ℕ) (ks : List ℕ) : Type 0 where

@@ -1,7 +1,7 @@
 -- How many questions the machine asks in all. Only this looks at how the cut is chosen.
 use Rattle.std.proofs.Common.{◌≡◌, ℕ, zero, suc, ◌+◌, ◌*◌, ◌<◌, ◌≤◌, Bool, true, false, ltb, List, length, get_or, refl, le_of_suc-le-suc, not-suc-le-zero, arith}
 use Rattle.std.proofs.lemmas.Bool.{ltb-false, both_ways, cond_both}
-use Rattle.subset.proofs.Lists.{has_get_d}
+use Rattle.subset.proofs.Lists.{has_get_or}
 use Rattle.bisect.specs.Judge.{Judge, fails, Monotone}
 use Rattle.bisect.specs.Search.{Pass, fresh, cut_of, question, answered}
 use Rattle.bisect.proofs.Cut.{cut_inner}
@@ -97,6 +97,6 @@ module _ (n : ℕ) (f : Judge) (k B c : ℕ) where
   tally_try i ks (l, s, g) t true e =
       let shorter = less_shorter i ks l in
       tally_pass B One (suc c) (less i ks) (omega (arith, s.small, shorter)) (omega (arith, t.all, later_mono (suc (length (less i ks))) (length ks) shorter))
-      (λ m. absurd (both_ways _ (s.needs m (get_or ks i 0) (has_get_d ks i l)) e))
+      (λ m. absurd (both_ways _ (s.needs m (get_or ks i 0) (has_get_or ks i l)) e))
   tally_try i ks (l, s, g) t false e =
       tally_trial B One (suc c) (suc i) ks l (record { all = omega (arith, t.all); one = λ o. omega (arith, t.one o) })

@@ -2,7 +2,7 @@
 use Rattle.std.proofs.Common.{◌≡◌, ℕ, suc, ◌<◌, ◌≤◌, Bool, true, false, ltb, List, [], ◌∷◌, length, get_or, take, refl, ap, ◌∙◌, inl, inr, arith, take_all, take-suc}
 use Rattle.std.proofs.lemmas.Bool.{ltb-false, eqb-false, cond_both}
 use Rattle.subset.specs.Parts.{some_of, without, has}
-use Rattle.subset.proofs.Lists.{has_append, has_cons, has_get_d, has_without, every_has, without_some}
+use Rattle.subset.proofs.Lists.{has_append, has_cons, has_get_or, has_without, every_has, without_some}
 use Rattle.subset.proofs.Order.{none_has, must_false}
 use Rattle.bisect.specs.Judge.{Judge, fails}
 use Rattle.bisect.specs.Pass.{StrictlyWithin}
@@ -17,7 +17,7 @@ less_within : (i : ℕ) (ks : List ℕ) → i < length ks → StrictlyWithin (le
 less_within i ks h =
     let x = get_or ks i 0 in (
       every_has (has ks) (less i ks) (λ y g. (has_without x ks y g).0),
-      (x, has_get_d ks i h, must_false _ (λ g. eqb-false x x (has_without x ks x g).1 refl)),
+      (x, has_get_or ks i h, must_false _ (λ g. eqb-false x x (has_without x ks x g).1 refl)),
     )
 
 -- each of these parts was left out of ks, and that did not fail

@@ -132,10 +132,10 @@ has_take c ks y h = rw (take-append-drop c ks) at (has_left (take c ks) (drop c 
 pub has_drop : (c : ℕ) (ks : List ℕ) (y : ℕ) → has (drop c ks) y ≡ true → has ks y ≡ true
 has_drop c ks y h = rw (take-append-drop c ks) at (has_right (take c ks) (drop c ks) y h)
 
-pub has_get_d : (ks : List ℕ) (i : ℕ) → i < length ks → has ks (get_or ks i 0) ≡ true
-has_get_d [] i h = absurd (not-suc-le-zero h)
-has_get_d (k ∷ ks) zero h = has_head k ks
-has_get_d (k ∷ ks) (suc i) h = has_tail k ks (get_or ks i 0) (has_get_d ks i (le_of_suc-le-suc h))
+pub has_get_or : (ks : List ℕ) (i : ℕ) → i < length ks → has ks (get_or ks i 0) ≡ true
+has_get_or [] i h = absurd (not-suc-le-zero h)
+has_get_or (k ∷ ks) zero h = has_head k ks
+has_get_or (k ∷ ks) (suc i) h = has_tail k ks (get_or ks i 0) (has_get_or ks i (le_of_suc-le-suc h))
 
 pub every_has : (p : ℕ → Bool) (ks : List ℕ) → ((y : ℕ) → has ks y ≡ true → p y ≡ true) → every p ks ≡ true
 unfolding every
@@ -192,17 +192,17 @@ row_without x b n [] h r = unfold those in refl
 row_without x b n (k ∷ ks) h r =
     rw (those_in (λ j. not (eqb j x)) k ks (not_from_false _ (ne_eqb k x (λ e. omega arith)))) (ap {B = List ℕ} (λ l. k ∷ l) (row_without x (suc k) n ks (omega arith) r.2))
 
-pub row_getD : (b n : ℕ) (ks : List ℕ) (i : ℕ) → i < length ks → Row b n ks → b ≤ get_or ks i 0
-row_getD b n [] i h r = absurd (not-suc-le-zero h)
-row_getD b n (k ∷ ks) zero h r = r.0
-row_getD b n (k ∷ ks) (suc i) h r = omega (arith, row_getD (suc k) n ks i (le_of_suc-le-suc h) r.2)
+pub row_get_or : (b n : ℕ) (ks : List ℕ) (i : ℕ) → i < length ks → Row b n ks → b ≤ get_or ks i 0
+row_get_or b n [] i h r = absurd (not-suc-le-zero h)
+row_get_or b n (k ∷ ks) zero h r = r.0
+row_get_or b n (k ∷ ks) (suc i) h r = omega (arith, row_get_or (suc k) n ks i (le_of_suc-le-suc h) r.2)
 
 pub without_at : (b n : ℕ) (ks : List ℕ) (i : ℕ) → i < length ks → Row b n ks → without (get_or ks i 0) ks ≡ take i ks ++ drop (suc i) ks
 without_at b n [] i h r = absurd (not-suc-le-zero h)
 without_at b n (k ∷ ks) zero h r =
     rw (those_out (λ j. not (eqb j k)) k ks (not_from_true _ (eq-eqb k k refl))) (row_without k (suc k) n ks (omega arith) r.2)
 without_at b n (k ∷ ks) (suc i) h r =
-    rw (those_in (λ j. not (eqb j (get_or ks i 0))) k ks (not_from_false _ (ne_eqb k (get_or ks i 0) (λ e. omega (arith, row_getD (suc k) n ks i (le_of_suc-le-suc h) r.2)))))
+    rw (those_in (λ j. not (eqb j (get_or ks i 0))) k ks (not_from_false _ (ne_eqb k (get_or ks i 0) (λ e. omega (arith, row_get_or (suc k) n ks i (le_of_suc-le-suc h) r.2)))))
     (ap {B = List ℕ} (λ l. k ∷ l) (without_at (suc k) n ks i (le_of_suc-le-suc h) r.2))
 
 pub length_all : (n : ℕ) → length (all_parts n) ≡ n
