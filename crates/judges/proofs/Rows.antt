@@ -30,14 +30,6 @@ every_done f xs i h = at_drop_all (every f) xs i h
 
 -- the same of lists, by their first
 module _ {A : Type 0} (f : A → Bool) (xs : List A) (x : A) (ys : List A) (is : xs ≡ x ∷ ys) where
-  pub any_first : f x ≡ true → any f xs ≡ true
-  unfolding any
-  any_first e = rw is (or_left _ _ e)
-
-  pub any_rest : f x ≡ false → any f ys ≡ any f xs
-  unfolding any
-  any_rest e = rw (is, e)
-
   pub every_first : f x ≡ false → every f xs ≡ false
   unfolding every
   every_first e = rw is (and_left _ _ e)
