@@ -57,7 +57,7 @@ def main():
     names, plain = own_names()
     new = {name: respelled(name) for name in names}
     together = sorted(n for n in names if new[n] in plain or list(new.values()).count(new[n]) > 1)
-    if together and "--anyway" not in sys.argv:
+    if together:
         sys.exit("respell: these fall together with others: " + ", ".join(together))
     words = re.compile(r"(?<![\w'\-])(" + "|".join(sorted(map(re.escape, names), key=len, reverse=True)) + r")(?![\w'\-])")
     for path in texts():

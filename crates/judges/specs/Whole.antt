@@ -44,7 +44,7 @@ pub record Tells (n : ℕ) (f : Judge) (out : List ℕ) (r : Ended) (memory₁ o
   pub long : length out₁ ≡ length out
   pub idle : fault memory₁ ≡ 2
 
--- and a memory or a row that doesn't fit is refused, as an end says
+-- WHAT A RUN TELLS; where memory or row don't fit it tells that
 abbrev pub RunTells : (fits : Bool) (n : ℕ) (f : Judge) (out : List ℕ) → Ended → (memory₁ out₁ : List ℕ) → Type 0
 RunTells true n f out r memory₁ out₁ = Tells n f out r memory₁ out₁
 RunTells false n f out r memory₁ out₁ = r ≡ Unfit

@@ -1,6 +1,7 @@
 -- What a trial rests on.
-use Rattle.std.proofs.Common.{◌≡◌, ℕ, ◌≤◌, Bool, true, false, cond, eqb, List, length, take, Some, None, Option, refl, ap, ◌∙◌, subst, ap₂, arith}
+use Rattle.std.proofs.Common.{◌≡◌, ℕ, ◌≤◌, Bool, true, false, cond, eqb, List, length, take, Some, None, Option, Decides, sym, refl, ap, ◌∙◌, subst, ap₂, arith}
 use Rattle.std.proofs.lemmas.Bool.{and_from, eq-eqb, le-leb}
+use Rattle.std.proofs.lemmas.List.{length-take-le}
 use Rattle.bisect.specs.Judge.{Judge}
 use Rattle.bisect.specs.Engine.{Event, Ran, told_left, told_sound, told_refused}
 use Rattle.reduce.specs.Entry.{fits}
@@ -9,22 +10,26 @@ use Rattle.judges.specs.Whole.{ended_as, Tells, RunTells}
 use Rattle.judges.specs.declared.driver.Ended.{Ended}
 use Rattle.judges.specs.declared.driver.Ended.TheVariants.{Left, Sound, TooMany, Unfit}
 use Rattle.inspect.specs.Inspector.{finding, Known}
-use Rattle.inspect.specs.Recorder.{RecordSays}
-use Rattle.judges.specs.Spelled.{lists_of}
+use Rattle.inspect.specs.Recorder.{RecordSays, Stopped}
+use Rattle.judges.specs.Spelled.{lists_of, spelled}
 use Rattle.inspect.specs.declared.inspector.End.{End}
 use Rattle.inspect.specs.declared.inspector.Finding.{Finding}
 use Rattle.inspect.specs.declared.recorder.Recorded.{Recorded}
 use Rattle.judges.proofs.Listed.{read_back}
-use Rattle.rig.specs.Trial.{Inspected, left_of, Shows}
+use Rattle.rig.specs.Trial.{Inspected, left_of, most_questions, Shows, transcript_room}
 
 -- what is inspected is what was recorded
-pub inspected : {S : Type 0} (does : S → Event → S → Told → List ℕ → Type 0) (f g : Judge) (s : S) (n limit : ℕ) (w : Recorded) (t : S) (row out : List ℕ) (told : Bool) (r : Finding) → g ≡ f
-    → RecordSays does f s n limit w t row out → r ≡ finding told n g (lists_of (take w.used row)) w.end (take w.left out) → Inspected does f s n told r t
-inspected does f g s n limit w t row out told r same rec e = record {
+pub inspected : {S : Type 0} (does : S → Event → S → Told → List ℕ → Type 0) (f g : Judge) (s : S) (n : ℕ) (w : Recorded) (t : S) (row out : List ℕ) (told : Bool) (r : Finding) → g ≡ f → length row ≡ transcript_room
+    → RecordSays does f s n most_questions w t row out → r ≡ finding told n g (lists_of (take w.used row)) w.end (take w.left out) → Inspected does f s n told r t
+inspected does f g s n w t row out told r same long rec e = record {
   exchanges = rec.exchanges;
   last = rec.told;
   out = out;
   dialogue = rec.dialogue;
+  stopped =
+      let used : w.used ≡ length (spelled rec.exchanges) = sym (length-take-le w.used row rec.used) ∙ ap length rec.spells in
+      subst (λ (k : ℕ). Stopped rec.told (length rec.exchanges) most_questions k transcript_room) used
+      (subst (λ (k : ℕ). Stopped rec.told (length rec.exchanges) most_questions w.used k) long rec.stopped);
   found =
       e ∙ ap (λ (j : Judge). finding told n j (lists_of (take w.used row)) w.end (take w.left out)) same
       ∙ ap (λ (es : List (List ℕ)). finding told n f es w.end (take w.left out)) (ap lists_of rec.spells ∙ read_back rec.exchanges)
@@ -55,7 +60,7 @@ shown_is None asked R e = go (eqb R.end told_left) (eqb R.end told_sound) (eqb R
     go false false false h = absurd (let z : ◌≡◌ {A = ℕ} 0 1 = cc in omega arith)
 
 pub shows : (f j : Judge) (n : ℕ) (told b : Bool) (l : Option ℕ) (asked : ℕ) (memory out m₁ out₁ : List ℕ) → j ≡ f → length memory ≡ 72 → 4096 ≤ length out
-    → RunTells (fits memory 0 out) n j out (ended_by l asked) m₁ out₁ → (b ≡ true → Known told n f) → Shows f n told (record { left = l; asked = asked; monotone = b })
+    → RunTells (fits memory 0 out) n j out (ended_by l asked) m₁ out₁ → Decides b (Known told n f) → Shows f n told (record { left = l; asked = asked; monotone = b })
 shows f j n told b l asked memory out m₁ out₁ same long room says known =
     let ready : fits memory 0 out ≡ true = and_from _ _ (eq-eqb _ _ long) (le-leb _ _ room) in
     let ends = subst (λ (h : Judge). Tells n h out (ended_by l asked) m₁ out₁) same (subst (λ (x : Bool). RunTells x n j out (ended_by l asked) m₁ out₁) ready says) in

@@ -1,22 +1,34 @@
 -- What a trial shows. Assumes nothing: these are definitions.
-use Rattle.std.specs.Prelude.{◌≡◌, ℕ, Bool, true, cond, List, reverse, length, take, Some, None, Ok, Err, Option, Result, ◌==◌}
+use Rattle.std.specs.Prelude.{◌≡◌, ◌≢◌, ℕ, ◌<◌, Bool, cond, List, reverse, length, take, replicate, Some, None, Ok, Err, Option, Result, Decides, ◌==◌}
 use Rattle.bisect.specs.Judge.{Judge, Monotone}
 use Rattle.bisect.specs.Engine.{Event, parts, Ran, run_of, told_left}
 use Rattle.reduce.specs.Own.{own}
 use Rattle.reduce.specs.declared.Told.{Told}
 use Rattle.inspect.specs.Inspector.{finding, Known}
 use Rattle.judges.specs.Kept.{Kept}
-use Rattle.inspect.specs.Recorder.{Dialogue, end_by, left_by}
+use Rattle.judges.specs.Spelled.{spelled}
+use Rattle.inspect.specs.Recorder.{Dialogue, Does, Stopped, end_by, left_by}
 use Rattle.inspect.specs.declared.inspector.Finding.{Finding}
+use Rattle.inspect.specs.declared.inspector.Finding.TheVariants.{Nothing}
+use Rattle.inspect.specs.declared.recorder.Machine.{Machine}
 use Rattle.rig.specs.declared.desk.Shown.{Shown}
 use Rattle.rig.specs.declared.desk.Wrong.{Wrong}
+use Rattle.rig.specs.declared.desk.Wrong.TheVariants.{Broken, TooMany}
 
--- what is found is what an inspection finds in a dialogue of the reducer with the judge
+-- a machine is stopped after so many questions, or where so long a transcript has no room for the next exchange
+abbrev pub most_questions : ℕ
+most_questions = 5000
+
+abbrev pub transcript_room : ℕ
+transcript_room = 65536
+
+-- what is found is what an inspection finds in a dialogue of the reducer with the judge, up to its end or where it was stopped
 pub record Inspected {S : Type 0} (does : S → Event → S → Told → List ℕ → Type 0) (f : Judge) (s : S) (n : ℕ) (told : Bool) (r : Finding) (t : S) : Type 0 where
   pub exchanges : List (List ℕ)
   pub last : Told
   pub out : List ℕ
   pub dialogue : Dialogue does f (does s (parts n)) (reverse exchanges) t last out
+  pub stopped : Stopped last (length exchanges) most_questions (length (spelled exchanges)) transcript_room
   pub found : r ≡ finding told n f exchanges (end_by last) (take (left_by last) out)
 
 -- how many are left, where something is
@@ -29,8 +41,17 @@ pub record Shows (f : Judge) (n : ℕ) (told : Bool) (s : Shown) : Type 0 where
   pub kept : Kept (Monotone f n) n f (run_of acts n own f)
   pub left : s.left ≡ left_of (run_of acts n own f)
   pub asked : s.asked ≡ length (run_of acts n own f).asked
-  pub monotone : s.monotone ≡ true → Known told n f
+  pub monotone : Decides s.monotone (Known told n f)
 
+-- what was found in a dialogue of the reducer itself, begun with a memory of zeros
+pub record Found (f : Judge) (n : ℕ) (told : Bool) (r : Finding) : Type 0 where
+  pub from : Machine
+  pub to : Machine
+  pub blank : from.memory ≡ replicate 72 0
+  pub inspected : Inspected Does f from n told r to
+
+-- it shows nothing where an inspection finds something, or there are too many parts
 abbrev pub Tried : Judge → ℕ → Bool → Result Shown Wrong → Type 0
 Tried f n told (Ok s) = Shows f n told s
-Tried f n told (Err w) = Unit {0}
+Tried f n told (Err (Broken r)) = (r ≢ Nothing) × Found f n told r
+Tried f n told (Err TooMany) = 4096 < n

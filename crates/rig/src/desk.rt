@@ -1,5 +1,5 @@
 // One trial: a run is recorded and inspected.
-ghost use Rattle.std.specs.Prelude.{◌≡◌, true, replicate};
+ghost use Rattle.std.specs.Prelude.{◌≡◌, replicate, Decides};
 ghost use Rattle.inspect.specs.Inspector.{Known};
 ghost use Rattle.rig.specs.Trial.{Inspected, Tried};
 
@@ -40,7 +40,7 @@ pub enum Wrong {
 // Whether failing is known to be monotone: one was told so, or it was tried.
 fn is_known<J: Judge>(judge: &mut J, parts: u64, told: bool) -> bool
     ensures same { J.meaning judge.new ≡ J.meaning judge.old }
-    ensures known { result ≡ true → Known told parts (J.meaning judge.old) }
+    ensures known { Decides result (Known told parts (J.meaning judge.old)) }
 {
     told || is_monotone(judge, parts).unwrap_or(false)
 }

@@ -1,4 +1,4 @@
-use Rattle.std.proofs.Common.{Some, None, ◌∙◌, subst, arith}
+use Rattle.std.proofs.Common.{Some, None, Decides, ◌∙◌, subst, arith}
 use Rattle.bisect.specs.Judge.{Judge}
 use Rattle.inspect.specs.Inspector.{Known}
 use Rattle.rig.proofs.Trying.{shows}
@@ -12,7 +12,7 @@ returns-in-Left g c =
       same = c.run.ensures.same ∙ second;
       tried =
           shows _ _ _ c.args.told c.is_known-monotone.result (Some c.in-Left.count) c.in-Left.asked c.inspected-finding.new.self.memory c.inspected-finding.new.self.left _ _ second (omega arith) (omega arith) c.in-Left.ensures.whole
-          (λ e. subst (λ (f : Judge). Known c.args.told c.args.parts f) first (c.is_known-monotone.ensures.known e));
+          (subst (λ (f : Judge). Decides c.is_known-monotone.result (Known c.args.told c.args.parts f)) first c.is_known-monotone.ensures.known);
     }
 
 pub returns-in-Sound : goal.returns-in-Sound
@@ -23,5 +23,5 @@ returns-in-Sound g c =
       same = c.run.ensures.same ∙ second;
       tried =
           shows _ _ _ c.args.told c.is_known-monotone.result None c.in-Sound.asked c.inspected-finding.new.self.memory c.inspected-finding.new.self.left _ _ second (omega arith) (omega arith) c.in-Sound.ensures.whole
-          (λ e. subst (λ (f : Judge). Known c.args.told c.args.parts f) first (c.is_known-monotone.ensures.known e));
+          (subst (λ (f : Judge). Decides c.is_known-monotone.result (Known c.args.told c.args.parts f)) first c.is_known-monotone.ensures.known);
     }
