@@ -1,9 +1,10 @@
 -- Runs that hear the same answers end alike; and so many answers tell only so many parts apart.
 use Rattle.std.proofs.Common.{◌≡◌, ℕ, zero, suc, ◌+◌, ◌^◌, ◌<◌, ◌≤◌, Bool, true, false, cond, not, eqb, List, [], ◌∷◌, ◌++◌, length, sym, refl, ap, ◌∙◌, subst, inl, inr, pow-suc, arith, length-append, pow_pos}
+use Rattle.std.specs.List.{filter}
 use mathlib.Core.List.{head-eq_of_cons-eq, tail-eq_of_cons-eq}
 use Rattle.std.proofs.lemmas.List.{append_assoc, length-map}
 use Rattle.std.proofs.lemmas.Bool.{cases_Bool, cond_both, lt-ltb, ltb-true, not-true, not_from_true, not_from_false}
-use Rattle.subset.specs.Parts.{those, all_parts, some_of, has}
+use Rattle.subset.specs.Parts.{all_parts, some_of, has}
 use Rattle.subset.proofs.Lists.{Row, row_all, row_those, has_head, has_tail, has_those, those_in, those_out, length_all}
 use Rattle.subset.proofs.Order.{must_false, same_is}
 use Rattle.subset.proofs.Changes.{has_all}
@@ -123,8 +124,8 @@ asks_all e n w l = let c = (w.1 n (λ q. 0)).1 l refl in go c.0 (ap (λ R. R.ask
     go (suc k) h = first_act n (λ q. 0) _ (λ v. grows n e (λ q. 0) k (e.step e.start (parts n)).memory (said v)) _ (all_parts n) h
 
 -- those of which p holds, and the others, are all
-parted : (p : ℕ → Bool) (xs : List ℕ) → length xs ≡ length (those p xs) + length (those (λ x. not (p x)) xs)
-parted p [] = unfold those in refl
+parted : (p : ℕ → Bool) (xs : List ℕ) → length xs ≡ length (filter p xs) + length (filter (λ x. not (p x)) xs)
+parted p [] = refl
 parted p (x ∷ xs) =
     elim (cases_Bool (p x)) [
       | inl e ↦ rw (those_in p x xs e, those_out (λ y. not (p y)) x xs (not_from_true _ e)) (omega (arith, parted p xs))
@@ -186,9 +187,9 @@ module _ (n : ℕ) (e : Engine) where
   -- then also of those for which the answer to q is v, with q asked first
   few_hear : (c : ℕ) → Few c → (b : ℕ) (m : List ℕ) (qs : List (List ℕ)) (q xs : List ℕ) → Row b n xs
       → ((x : ℕ) → has xs x ≡ true → Finds (suc c) m qs (ask q) x)
-      → (p : ℕ → Bool) (v : ℕ) → ((x : ℕ) → p x ≡ true → Decider x q ≡ v) → length (those p xs) ≤ 2 ^ c
+      → (p : ℕ → Bool) (v : ℕ) → ((x : ℕ) → p x ≡ true → Decider x q ≡ v) → length (filter p xs) ≤ 2 ^ c
   few_hear c few b m qs q xs r h p v d =
-      few b (e.step m (said v)).memory (q ∷ qs) (e.step m (said v)).act (those p xs) (row_those p b n xs r)
+      few b (e.step m (said v)).memory (q ∷ qs) (e.step m (said v)).act (filter p xs) (row_those p b n xs r)
       (λ x g. let t = has_those p xs x g in next c m qs q x v (d x t.1) (h x t.0))
 
   few_found : (c : ℕ) → Few c

@@ -1,8 +1,9 @@
 -- Steps of the loops that test whether parts rise, and that copy all but one.
 use Rattle.std.proofs.Common.{◌≡◌, ℕ, zero, suc, ◌+◌, ◌<◌, ◌≤◌, true, not, ◌&&◌, eqb, ltb, List, [], ◌∷◌, ◌++◌, length, get_or, take, drop, set, sym, refl, ap, ◌∙◌, ap₂, le_of_suc-le-suc, not-suc-le-zero, arith, take-append-drop}
+use Rattle.std.specs.List.{filter}
 use Rattle.std.proofs.lemmas.List.{append_assoc, append-nil, at_drop_more, drop_all, drop-drop, drop-set-lt, length-take-le, take_more_set}
 use Rattle.std.proofs.lemmas.Bool.{eq-eqb, ne_eqb, not_from_true, not_from_false}
-use Rattle.subset.specs.Parts.{those, rising, without}
+use Rattle.subset.specs.Parts.{rising, without}
 use Rattle.subset.proofs.Lists.{those_in, those_out}
 
 -- from one part on, by it and the next
@@ -45,7 +46,6 @@ leaving_in part ks out₀ out i n l m e t =
 
 pub leaving_all : (part : ℕ) (ks out₀ out : List ℕ) (i n : ℕ) → length ks ≤ i → n ≤ length out → Leaving part ks out₀ out i n
     → (n ≡ length (without part ks)) × (out ≡ without part ks ++ drop (length (without part ks)) out₀)
-unfolding those
 leaving_all part ks out₀ out i n l m t =
     let front : take n out ≡ without part ks = sym (append-nil (take n out)) ∙ rw (drop_all i ks l) at t.0 in
     let count : n ≡ length (without part ks) = sym (length-take-le n out m) ∙ ap length front in

@@ -1,7 +1,8 @@
 -- Every question lies strictly within what is held, so what is held lies within all that failed.
 use Rattle.std.proofs.Common.{◌≡◌, ℕ, zero, suc, ◌<◌, ◌≤◌, Bool, true, false, ltb, ◌⊎◌, List, [], ◌∷◌, length, get_or, take, sym, refl, ap, ◌∙◌, subst, inl, inr, le_of_suc-le-suc, not-suc-le-zero, arith}
+use Rattle.std.specs.List.{filter, list_any}
 use Rattle.std.proofs.lemmas.Bool.{and_from, ltb-true, lt-ltb, le-ltb, eq-eqb, both_ways, or_cases, or_left, or_right}
-use Rattle.subset.specs.Parts.{any, those, same, some_of, has}
+use Rattle.subset.specs.Parts.{same, some_of, has}
 use Rattle.subset.proofs.Lists.{Row, row_from, row_get_or, those_in, those_out, has_append, has_get_or, has_those, has_every, every_has}
 use Rattle.subset.proofs.Order.{row_has, same_is, must_false}
 use Rattle.bisect.specs.Judge.{Judge, fails}
@@ -16,19 +17,15 @@ same_self [] = refl
 same_self (k ∷ ks) = and_from _ _ (eq-eqb k k refl) (same_self ks)
 
 pub asked_new : (q : List ℕ) (qs : List (List ℕ)) → asked_of (q ∷ qs) q ≡ true
-unfolding any
-asked_new q qs = or_left (same q q) (any (same q) qs) (same_self q)
+asked_new q qs = or_left (same q q) (list_any (same q) qs) (same_self q)
 
 pub asked_more : (q p : List ℕ) (qs : List (List ℕ)) → asked_of qs q ≡ true → asked_of (p ∷ qs) q ≡ true
-unfolding any
-asked_more q p qs h = or_right (same q p) (any (same q) qs) h
+asked_more q p qs h = or_right (same q p) (list_any (same q) qs) h
 
 asked_cases : (q p : List ℕ) (qs : List (List ℕ)) → asked_of (p ∷ qs) q ≡ true → (q ≡ p) ⊎ (asked_of qs q ≡ true)
-unfolding any
-asked_cases q p qs h = elim (or_cases (same q p) (any (same q) qs) h) [ inl a ↦ inl (same_is q p a) | inr a ↦ inr a ]
+asked_cases q p qs h = elim (or_cases (same q p) (list_any (same q) qs) h) [ inl a ↦ inl (same_is q p a) | inr a ↦ inr a ]
 
 asked_none : (q : List ℕ) → asked_of [] q ≡ true → ⊥
-unfolding any
 asked_none q h = both_ways _ refl h
 
 -- ---- F is what is held, of what A was at the beginning
@@ -79,7 +76,7 @@ before_take b n [] r h w = absurd (not-suc-le-zero h)
 before_take b n (k ∷ ks) zero h w = those_out (λ z. ltb z k) k ks (le-ltb k k (omega arith)) ∙ none k ks (suc k) n (omega arith) w.2
   where
     none : (k : ℕ) (ks : List ℕ) (b n : ℕ) → k ≤ b → Row b n ks → before k ks ≡ []
-    none k [] b n h w = unfold those in refl
+    none k [] b n h w = refl
     none k (j ∷ ks) b n h w = rw (those_out (λ z. ltb z k) j ks (le-ltb j k (omega arith))) (none k ks (suc j) n (omega arith) w.2)
 before_take b n (k ∷ ks) (suc r) h w =
     let g : suc k ≤ get_or ks r 0 = row_get_or (suc k) n ks r (le_of_suc-le-suc h) w.2 in

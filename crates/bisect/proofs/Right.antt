@@ -1,7 +1,8 @@
 -- One pass, whatever its cuts are: what stands while it goes on, that each answer keeps it, and that it ends.
 use Rattle.std.proofs.Common.{◌≡◌, ℕ, zero, suc, ◌+◌, ◌<◌, ◌≤◌, Bool, true, false, not, ltb, List, length, get_or, take, sym, refl, ap, ◌∙◌, subst, inl, inr, le_of_suc-le-suc, not-suc-le-zero, arith}
+use Rattle.std.specs.List.{list_all}
 use Rattle.std.proofs.lemmas.Bool.{ltb-true, ltb-false, both_ways, not_from_false, cond_both}
-use Rattle.subset.specs.Parts.{every, some_of, without, has}
+use Rattle.subset.specs.Parts.{some_of, without, has}
 use Rattle.subset.proofs.Lists.{every_cons, without_some, without_within}
 use Rattle.subset.proofs.Order.{none_has, must_false}
 use Rattle.bisect.specs.Judge.{Judge, fails, Monotone}
@@ -100,7 +101,7 @@ pub record Right (n : ℕ) (f : Judge) (p : Pass) : Type 0 where
   pub some : some_of n p.held ≡ true
   pub bad : fails f p.held ≡ true
   pub edge : (l : ℕ) → p.at.lo ≡ suc l → fails f (question l p) ≡ false
-  pub surely : every (λ k. not (fails f (without k p.held))) (take p.at.sure (above p.at.row p.held)) ≡ true
+  pub surely : list_all (λ k. not (fails f (without k p.held))) (take p.at.sure (above p.at.row p.held)) ≡ true
   pub needs : Monotone f n → (x : ℕ) → has (above p.at.row p.held) x ≡ true → fails f (without x p.held) ≡ false
 
 module _ (n : ℕ) (f : Judge) where
@@ -116,7 +117,7 @@ module _ (n : ℕ) (f : Judge) where
     some = sm;
     bad = e;
     edge = λ l q. absurd (omega arith);
-    surely = unfold every in refl;
+    surely = refl;
     needs = λ m x g. absurd (none_has x (rw (above_none ks) at g));
   }
 
@@ -135,7 +136,7 @@ module _ (n : ℕ) (f : Judge) where
         surely =
             rw (above_cons r ks h)
             (every_cons _ x _ (not_from_false _ one)
-            (subst (λ (k : ℕ). every (λ k. not (fails f (without k ks))) (take p.at.sure (above k ks)) ≡ true) i t.surely));
+            (subst (λ (k : ℕ). list_all (λ k. not (fails f (without k ks))) (take p.at.sure (above k ks)) ≡ true) i t.surely));
         needs = λ m y g.
             elim (above_has r ks y h g) [ inl a ↦ rw a one | inr a ↦ t.needs m y (subst (λ (k : ℕ). has (above k ks) y ≡ true) (sym i) a) ];
       }
@@ -152,7 +153,7 @@ module _ (n : ℕ) (f : Judge) where
           some = sm;
           bad = e;
           edge = λ l q. rw (keep_keep l c r ks (omega arith) (omega arith) t.sized.high) (t.edge l q);
-          surely = unfold every in refl;
+          surely = refl;
           needs = λ m x g. still m x (question c p) ks sm t.some (keep_has c r ks) (t.needs m x (rw ab at g));
         }
 

@@ -1,7 +1,8 @@
 -- What one pass has asked: each part that it found is needed after all that stood before it, and those that are sure were shown so.
 use Rattle.std.proofs.Common.{◌≡◌, ℕ, suc, ◌<◌, ◌≤◌, Bool, true, false, ltb, List, [], ◌∷◌, ◌++◌, length, get_or, take, sym, refl, ap, ◌∙◌, subst, inl, inr, arith, get_or-take, take-take}
+use Rattle.std.specs.List.{filter}
 use Rattle.std.proofs.lemmas.Bool.{lt-ltb, le-ltb}
-use Rattle.subset.specs.Parts.{those, some_of, without, has}
+use Rattle.subset.specs.Parts.{some_of, without, has}
 use Rattle.subset.proofs.Lists.{Row, row_from, those_in, those_out, has_cons}
 use Rattle.subset.proofs.Order.{row_has, none_has}
 use Rattle.bisect.specs.Judge.{Judge, fails}
@@ -12,7 +13,7 @@ use Rattle.bisect.proofs.Right.{Finds, answers, failed, stood, Right, right_foun
 use Rattle.bisect.proofs.Nest.{asked_new, asked_more, before_take}
 
 beyond_all : (x b n : ℕ) (ks : List ℕ) → x < b → Row b n ks → beyond x ks ≡ ks
-beyond_all x b n [] h w = unfold those in refl
+beyond_all x b n [] h w = refl
 beyond_all x b n (k ∷ ks) h w =
     rw (those_in (λ z. ltb x z) k ks (lt-ltb x k (omega arith))) (ap {B = List ℕ} (λ l. k ∷ l) (beyond_all x (suc k) n ks (omega arith) w.2))
 

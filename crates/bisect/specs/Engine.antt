@@ -1,6 +1,7 @@
 -- Events, acts, engines over a memory of numbers, and their runs against a judge. Assumes nothing: these are definitions.
 use Rattle.std.specs.Prelude.{◌≡◌, ℕ, zero, suc, ◌≤◌, true, cond, List, [], ◌∷◌, length, nat_eq}
-use Rattle.subset.specs.Parts.{every, some_of}
+use Rattle.std.specs.List.{list_all}
+use Rattle.subset.specs.Parts.{some_of}
 use Rattle.subset.specs.Laws.{all_small}
 use Rattle.bisect.specs.Judge.{Judge}
 
@@ -67,5 +68,5 @@ run_of k n e f = runs k n e f e.start (parts n) []
 -- memory is all 0 at the start; it never grows, nor do its numbers beyond 64 bits
 unfoldable pub Steady : Engine → Type 0
 Steady e =
-    (length e.start ≤ 65536) × (every (λ m. nat_eq m 0) e.start ≡ true)
+    (length e.start ≤ 65536) × (list_all (λ m. nat_eq m 0) e.start ≡ true)
     × ((m : List ℕ) (ev : Event) → (length (e.step m ev).memory ≡ length m) × (all_small m ≡ true → all_small (e.step m ev).memory ≡ true))

@@ -1,6 +1,7 @@
 -- A judge says of each subset whether it fails; what is lean, and what it is that failing is monotone. Assumes nothing: these are definitions.
 use Rattle.std.specs.Prelude.{◌≡◌, ℕ, Bool, true, not, ◌&&◌, List, ◌==◌}
-use Rattle.subset.specs.Parts.{every, same, some_of, without, has, within}
+use Rattle.std.specs.List.{list_all}
+use Rattle.subset.specs.Parts.{same, some_of, without, has, within}
 
 -- 0 it doesn't fail, 1 it fails, 2 one can't tell; any other number is as little a failure as 0 and 2
 abbrev pub Judge : Type 0
@@ -11,7 +12,7 @@ fails f ks = f ks == 1
 
 -- it fails, and without any one of its parts it doesn't
 abbrev pub lean : Judge → List ℕ → Bool
-lean f ks = fails f ks && every (λ k. not (fails f (without k ks))) ks
+lean f ks = fails f ks && list_all (λ k. not (fails f (without k ks))) ks
 
 -- whatever contains what fails, fails
 abbrev pub Monotone : Judge → ℕ → Type 0

@@ -1,6 +1,7 @@
 -- One pass alone, from any subset that fails, and what it has asked. Assumes nothing: these are definitions and statements.
 use Rattle.std.specs.Prelude.{◌≡◌, ℕ, zero, suc, ◌*◌, ◌<◌, ◌≤◌, Bool, true, false, cond, ltb, ◌⊎◌, List, [], ◌∷◌, ◌++◌, length, nat_lt}
-use Rattle.subset.specs.Parts.{any, those, same, some_of, has, within}
+use Rattle.std.specs.List.{filter, list_any}
+use Rattle.subset.specs.Parts.{same, some_of, has, within}
 use Rattle.bisect.specs.Judge.{Judge, fails, lean, Monotone}
 use Rattle.bisect.specs.Search.{Pass, fresh, cut_of, question, answered}
 
@@ -27,7 +28,7 @@ Inner cuts = (p : Pass) → p.at.lo < p.at.row → (p.at.lo ≤ cuts p) × (cuts
 
 -- ---- what was asked
 abbrev pub asked_of : List (List ℕ) → List ℕ → Bool
-asked_of qs q = any (same q) qs
+asked_of qs q = list_any (same q) qs
 
 -- what was asked before did not fail
 abbrev pub Repeats : Judge → List (List ℕ) → Type 0
@@ -39,10 +40,10 @@ abbrev pub StrictlyWithin : List ℕ → List ℕ → Type 0
 StrictlyWithin ks js = (within ks js ≡ true) × ((x : ℕ) × (has js x ≡ true) × (has ks x ≡ false))
 
 abbrev pub before : ℕ → List ℕ → List ℕ
-before y ks = those (λ z. ltb z y) ks
+before y ks = filter (λ z. ltb z y) ks
 
 abbrev pub beyond : ℕ → List ℕ → List ℕ
-beyond y ks = those (λ z. ltb y z) ks
+beyond y ks = filter (λ z. ltb y z) ks
 
 -- a pass over ks that ended
 pub record Passed (n : ℕ) (f : Judge) (ks : List ℕ) (R : Progress) : Type 0 where

@@ -1,7 +1,8 @@
 -- The subsets of a few parts, by their numbers.
 use Rattle.std.proofs.Common.{◌≡◌, ℕ, zero, suc, ◌+◌, ◌*◌, ◌/◌, ◌%◌, ◌^◌, ◌<◌, ◌≤◌, Bool, true, false, cond, ◌&&◌, ltb, ◌⊎◌, List, [], ◌∷◌, get_or, Decides, sym, refl, ap, ◌∙◌, subst, inl, inr, add-one, arith, pow_pos, pow_mono}
+use Rattle.std.specs.List.{list_all}
 use Rattle.std.proofs.lemmas.Bool.{and_parts, and_from, both_ways, cases_lt, ltb-true, lt-ltb}
-use Rattle.subset.specs.Parts.{every, all_parts, some_of, has, within}
+use Rattle.subset.specs.Parts.{all_parts, some_of, has, within}
 use Rattle.subset.specs.Row.{digit, bit, number, word_by, words_by, words_of}
 use Rattle.subset.proofs.Lists.{row_from, row_to, row_wider, every_append, every_cons, every_has, has_every}
 use Rattle.subset.proofs.Order.{must_false, past}
@@ -15,13 +16,13 @@ use Rattle.inspect.specs.Exhaustive.{coded, implies, of_first, of_all, larger_fa
 
 -- ---- the turns of a loop over the numbers
 pub first_none : (p : List ℕ → Bool) → of_first 0 p ≡ true
-unfolding every all_parts
+unfolding all_parts
 first_none p = refl
 
 pub first_more : (p : List ℕ → Bool) (i : ℕ) → of_first i p ≡ true → p (coded i) ≡ true → of_first (i + 1) p ≡ true
 unfolding all_parts
 first_more p i h e =
-    rw (add-one i) (every_append (λ c. p (coded c)) (all_parts i) (i ∷ []) h (every_cons (λ c. p (coded c)) i [] e (unfold every in refl)))
+    rw (add-one i) (every_append (λ c. p (coded c)) (all_parts i) (i ∷ []) h (every_cons (λ c. p (coded c)) i [] e (refl)))
 
 -- one that is below a number breaks it
 pub first_broken : (p : List ℕ → Bool) (end i : ℕ) → i < end → p (coded i) ≡ false → of_first end p ≡ false

@@ -1,8 +1,9 @@
 -- Nothing is found exactly where the answers are the judge's and the promises are kept.
 use Rattle.std.proofs.Common.{◌≡◌, ℕ, ◌+◌, ◌*◌, ◌<◌, ◌≤◌, Bool, true, false, cond, not, ◌&&◌, eqb, leb, List, [], ◌∷◌, ◌++◌, map, reverse, length, sym, refl, ap, ◌∙◌, inl, inr, arith}
+use Rattle.std.specs.List.{list_all}
 use Rattle.std.proofs.lemmas.List.{length-map, length-reverse, reverse-append, nil_from_length}
 use Rattle.std.proofs.lemmas.Bool.{and_parts, and_from, or_cases, or_left, or_right, both_ways, cases_Bool, cases_lt, not-true, not_from_false, eq-eqb, eqb-true, le-leb, leb-true, leb-false}
-use Rattle.subset.specs.Parts.{every, all_parts, some_of}
+use Rattle.subset.specs.Parts.{all_parts, some_of}
 use Rattle.subset.proofs.Lists.{length_all}
 use Rattle.bisect.specs.Judge.{Judge, fails, lean, Monotone, Least}
 use Rattle.bisect.specs.Engine.{Ran, ran, told_sound, told_refused}
@@ -48,21 +49,19 @@ held : (b : Bool) (x go : Finding) → b ≡ true → go ≡ Nothing → check b
 held b x go h e = rw h e
 
 -- ---- what was asked, the last first
-every_snoc : {A : Type 0} (p : A → Bool) (xs : List A) (x : A) → every p (xs ++ x ∷ []) ≡ (p x && every p xs)
-unfolding every
+every_snoc : {A : Type 0} (p : A → Bool) (xs : List A) (x : A) → list_all p (xs ++ x ∷ []) ≡ (p x && list_all p xs)
 every_snoc p [] x = refl
 every_snoc p (y ∷ xs) x = go (p y) (p x) (every_snoc p xs x)
   where
-    go : (a b : Bool) → every p (xs ++ x ∷ []) ≡ (b && every p xs) → (a && every p (xs ++ x ∷ [])) ≡ (b && (a && every p xs))
+    go : (a b : Bool) → list_all p (xs ++ x ∷ []) ≡ (b && list_all p xs) → (a && list_all p (xs ++ x ∷ [])) ≡ (b && (a && list_all p xs))
     go true b e = e
     go false true e = refl
     go false false e = refl
 
-asked_every : (p : List ℕ → Bool) (es : List (List ℕ)) → every p (reverse (map question_of es)) ≡ every (λ e. p (question_of e)) es
-unfolding every
+asked_every : (p : List ℕ → Bool) (es : List (List ℕ)) → list_all p (reverse (map question_of es)) ≡ list_all (λ e. p (question_of e)) es
 asked_every p [] = refl
 asked_every p (e ∷ es) =
-    ap (every p) (reverse-append (question_of e ∷ []) (map question_of es)) ∙ every_snoc p (reverse (map question_of es)) (question_of e)
+    ap (list_all p) (reverse-append (question_of e ∷ []) (map question_of es)) ∙ every_snoc p (reverse (map question_of es)) (question_of e)
     ∙ ap (λ b. p (question_of e) && b) (asked_every p es)
 
 asked_length : (es : List (List ℕ)) → length (reverse (map question_of es)) ≡ length es
@@ -95,7 +94,7 @@ module _ (told : Bool) (n : ℕ) (f : Judge) (honest : 9 < n → told ≡ true �
       elim (cases_Bool (leb n 9)) [ inl e ↦ rw e ((spared_decides n f (omega (arith, leb-true n 9 e)) ks s).1 m) | inr e ↦ rw e ]
 
   -- ---- where something is left
-  left_to : (es : List (List ℕ)) (ks : List ℕ) → n ≤ 4096 → every (there n) es ≡ true → of_left told n f (length es) ks ≡ Nothing
+  left_to : (es : List (List ℕ)) (ks : List ℕ) → n ≤ 4096 → list_all (there n) es ≡ true → of_left told n f (length es) ks ≡ Nothing
       → Kept (Known told n f) n f (recorded es end.Left ks)
   unfolding recorded
   left_to es ks l here e =
@@ -134,9 +133,9 @@ module _ (told : Bool) (n : ℕ) (f : Judge) (honest : 9 < n → told ≡ true �
       go false e = refl
 
   -- ---- where it said "sound"
-  sound_to : (es : List (List ℕ)) (ks : List ℕ) → n ≤ 4096 → every (rightly f) es ≡ true → every (there n) es ≡ true → of_sound n es ≡ Nothing
+  sound_to : (es : List (List ℕ)) (ks : List ℕ) → n ≤ 4096 → list_all (rightly f) es ≡ true → list_all (there n) es ≡ true → of_sound n es ≡ Nothing
       → Kept (Known told n f) n f (recorded es end.Sound ks)
-  unfolding every recorded
+  unfolding recorded
   sound_to [] ks l right here e = absurd (found Unasked refl e)
   sound_to (e ∷ es) ks l right here h =
       let (long, h₁) = on (eqb (length (question_of e)) n) Unasked _ refl h in
@@ -153,8 +152,7 @@ module _ (told : Bool) (n : ℕ) (f : Judge) (honest : 9 < n → told ≡ true �
         there = asked_every (some_of n) (e ∷ es) ∙ here;
       }
 
-  sound_from : (es : List (List ℕ)) → every (rightly f) es ≡ true → fails f (all_parts n) ≡ false → reverse (map question_of es) ≡ all_parts n ∷ [] → of_sound n es ≡ Nothing
-  unfolding every
+  sound_from : (es : List (List ℕ)) → list_all (rightly f) es ≡ true → fails f (all_parts n) ≡ false → reverse (map question_of es) ≡ all_parts n ∷ [] → of_sound n es ≡ Nothing
   sound_from [] right fine q = absurd (let w = ap length q in omega arith)
   sound_from (e ∷ es) right fine q =
       let one : length es ≡ 0 = (let w = ap length q in omega (arith, w, asked_length (e ∷ es))) in
@@ -170,7 +168,7 @@ module _ (told : Bool) (n : ℕ) (f : Judge) (honest : 9 < n → told ≡ true �
 
   -- ---- of more than 4,096 parts
   many_to : (es : List (List ℕ)) (x : End) (ks : List ℕ) → 4096 < n → of_many es x ≡ Nothing → Kept (Known told n f) n f (recorded es x ks)
-  unfolding recorded every
+  unfolding recorded
   many_to [] end.Refused ks l e = record { many = λ m. refl; sound = λ m. absurd (omega arith); left = λ m. absurd (omega arith); there = refl }
   many_to [] end.Left ks l e = absurd (found NotRefused refl e)
   many_to [] end.Sound ks l e = absurd (found NotRefused refl e)
@@ -186,7 +184,7 @@ module _ (told : Bool) (n : ℕ) (f : Judge) (honest : 9 < n → told ≡ true �
   many_from (e ∷ es) x ks h = absurd (omega (arith, asked_length (e ∷ es), ap (λ (R : Ran). length R.asked) h))
 
   -- ---- by the end
-  end_to : (es : List (List ℕ)) (x : End) (ks : List ℕ) → n ≤ 4096 → every (rightly f) es ≡ true → every (there n) es ≡ true → of_end told n f es x ks ≡ Nothing
+  end_to : (es : List (List ℕ)) (x : End) (ks : List ℕ) → n ≤ 4096 → list_all (rightly f) es ≡ true → list_all (there n) es ≡ true → of_end told n f es x ks ≡ Nothing
       → Kept (Known told n f) n f (recorded es x ks)
   end_to es end.Left ks l right here e = left_to es ks l here e
   end_to es end.Sound ks l right here e = sound_to es ks l right here e
@@ -200,7 +198,7 @@ module _ (told : Bool) (n : ℕ) (f : Judge) (honest : 9 < n → told ≡ true �
   lean_end es end.Refused ks b w = absurd (omega (arith, w.lessened.done))
   lean_end es end.Unended ks b w = absurd (omega (arith, w.lessened.done))
 
-  sound_end : (es : List (List ℕ)) (x : End) (ks : List ℕ) → every (rightly f) es ≡ true → fails f (all_parts n) ≡ false
+  sound_end : (es : List (List ℕ)) (x : End) (ks : List ℕ) → list_all (rightly f) es ≡ true → fails f (all_parts n) ≡ false
       → recorded es x ks ≡ ran (all_parts n ∷ []) told_sound [] → of_end told n f es x ks ≡ Nothing
   unfolding recorded
   sound_end es end.Sound ks right b e = sound_from es right b (ap (λ (R : Ran). R.asked) e)
@@ -210,8 +208,8 @@ module _ (told : Bool) (n : ℕ) (f : Judge) (honest : 9 < n → told ≡ true �
 
   clean_to : (es : List (List ℕ)) (x : End) (ks : List ℕ) → finding told n f es x ks ≡ Nothing → Clean told n f es x ks
   clean_to es x ks e =
-      let (right, e₁) = on (every (rightly f) es) Misheard _ refl e in
-      let (here, e₂) = on (every (there n) es) Strayed _ refl e₁ in (
+      let (right, e₁) = on (list_all (rightly f) es) Misheard _ refl e in
+      let (here, e₂) = on (list_all (there n) es) Strayed _ refl e₁ in (
         right,
         elim (cases_Bool (leb n 4096)) [
           | inl l ↦ end_to es x ks (leb-true n 4096 l) right here (rw l at e₂)

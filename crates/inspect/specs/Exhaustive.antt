@@ -1,6 +1,7 @@
 -- Every subset of a few parts, by its number: part p counts 2^p. Assumes nothing: these are definitions.
 use Rattle.std.specs.Prelude.{◌≡◌, ℕ, ◌^◌, Bool, true, false, cond, ◌&&◌, List, [], ◌∷◌, Some, None, Decides, Option}
-use Rattle.subset.specs.Parts.{every, all_parts, within}
+use Rattle.std.specs.List.{list_all}
+use Rattle.subset.specs.Parts.{all_parts, within}
 use Rattle.subset.specs.Row.{members}
 use Rattle.bisect.specs.Judge.{Judge, fails, Monotone}
 
@@ -13,7 +14,7 @@ implies a b = cond a b true
 
 -- p holds of the subsets with the numbers below `end`; and of all subsets of n parts
 abbrev pub of_first : (end : ℕ) → (List ℕ → Bool) → Bool
-of_first end p = every (λ c. p (coded c)) (all_parts end)
+of_first end p = list_all (λ c. p (coded c)) (all_parts end)
 
 abbrev pub of_all : ℕ → (List ℕ → Bool) → Bool
 of_all n p = of_first (2 ^ n) p

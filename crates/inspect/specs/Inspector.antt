@@ -1,6 +1,7 @@
 -- A transcript, and what an inspector finds in it. Assumes nothing: these are definitions.
 use Rattle.std.specs.Prelude.{◌≡◌, ℕ, ◌+◌, ◌*◌, ◌<◌, ◌≤◌, Bool, true, cond, not, ◌&&◌, ◌||◌, ◌⊎◌, List, [], ◌∷◌, map, reverse, length, drop, ◌==◌, nat_le, slice_index}
-use Rattle.subset.specs.Parts.{every, all_parts, some_of, without}
+use Rattle.std.specs.List.{list_all}
+use Rattle.subset.specs.Parts.{all_parts, some_of, without}
 use Rattle.bisect.specs.Judge.{Judge, fails, Monotone}
 use Rattle.bisect.specs.Engine.{Ran, ran, told_left, told_sound, told_refused, still_asks}
 use Rattle.inspect.specs.Exhaustive.{grows, spared}
@@ -77,7 +78,7 @@ of_count told n f asked ks =
 
 -- no single part of ks can be left out
 abbrev pub all_needed : Judge → List ℕ → Bool
-all_needed f ks = every (λ k. not (fails f (without k ks))) ks
+all_needed f ks = list_all (λ k. not (fails f (without k ks))) ks
 
 -- where something is left
 abbrev pub of_left : Bool → ℕ → Judge → ℕ → List ℕ → Finding
@@ -94,8 +95,8 @@ of_end told n f es end.Unended ks = Unended
 
 abbrev pub finding : Bool → ℕ → Judge → List (List ℕ) → End → List ℕ → Finding
 finding told n f es x ks =
-    check (every (rightly f) es) Misheard
-    (check (every (there n) es) Strayed (cond (nat_le n 4096) (of_end told n f es x ks) (of_many es x)))
+    check (list_all (rightly f) es) Misheard
+    (check (list_all (there n) es) Strayed (cond (nat_le n 4096) (of_end told n f es x ks) (of_many es x)))
 
 -- ---- what that means
 -- failing is known to be monotone
@@ -104,7 +105,7 @@ Known told n f = (told ≡ true) ⊎ ((n ≤ 9) × Monotone f n)
 
 -- the answers are the judge's, and the promises are kept
 abbrev pub Clean : Bool → ℕ → Judge → List (List ℕ) → End → List ℕ → Type 0
-Clean told n f es x ks = (every (rightly f) es ≡ true) × Kept (Known told n f) n f (recorded es x ks)
+Clean told n f es x ks = (list_all (rightly f) es ≡ true) × Kept (Known told n f) n f (recorded es x ks)
 
 -- NOTHING IS FOUND exactly where that holds; of more than nine parts one must not be told falsely that failing is monotone
 abbrev pub Exact : Bool → ℕ → Judge → List (List ℕ) → End → List ℕ → Finding → Type 0

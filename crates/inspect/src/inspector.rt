@@ -1,7 +1,8 @@
 // What a transcript of a run shows: whether the promises were kept, and if not, which one was broken.
 ghost use Rattle.std.specs.Prelude.{◌≡◌, ◌≤◌, true, length, take};
+ghost use Rattle.std.specs.List.{list_all};
 ghost use Rattle.bisect.specs.Judge.{fails};
-ghost use Rattle.subset.specs.Parts.{all_parts, every, rising, without};
+ghost use Rattle.subset.specs.Parts.{all_parts, rising, without};
 ghost use Rattle.inspect.specs.Inspector.{Exact, all_needed, answer_of, finding, known, of_count, of_end, of_left, of_many, of_monotone, of_sound, question_of, rightly, there};
 ghost use Rattle.judges.specs.Spelled.{lists_of};
 
@@ -86,7 +87,7 @@ fn parted(exchange: &[u64]) -> (u64, &[u64])
 // Whether every answer is what the judge says.
 fn heard_rightly<J: Judge>(judge: &mut J, exchanges: &[u64]) -> bool
     ensures same { J.meaning judge.new ≡ J.meaning judge.old }
-    ensures value { result ≡ every (rightly (J.meaning judge.old)) (lists_of exchanges.now) }
+    ensures value { result ≡ list_all (rightly (J.meaning judge.old)) (lists_of exchanges.now) }
 {
     let mut rest = exchanges;
     while let Some((exchange, others)) = first_list(rest) {
@@ -101,7 +102,7 @@ fn heard_rightly<J: Judge>(judge: &mut J, exchanges: &[u64]) -> bool
 
 // Whether every question is a subset of the parts.
 fn all_there(exchanges: &[u64], parts: u64) -> bool
-    ensures { result ≡ every (there parts) (lists_of exchanges.now) }
+    ensures { result ≡ list_all (there parts) (lists_of exchanges.now) }
 {
     let mut rest = exchanges;
     while let Some((exchange, others)) = first_list(rest) {

@@ -1,12 +1,13 @@
 // Whether a row of numbers is a subset.
 ghost use Rattle.std.specs.Prelude.{◌≡◌, nat_lt};
-ghost use Rattle.subset.specs.Parts.{every, some_of};
+ghost use Rattle.std.specs.List.{list_all};
+ghost use Rattle.subset.specs.Parts.{some_of};
 
 use bisect::rises;
 
 // Whether all are below a number.
 fn all_below(parts: &[u64], end: u64) -> bool
-    ensures { result ≡ every (λ k. nat_lt k end) parts.now }
+    ensures { result ≡ list_all (λ k. nat_lt k end) parts.now }
 {
     for p in parts {
         if *p >= end {

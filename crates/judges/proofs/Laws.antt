@@ -1,7 +1,8 @@
 -- What is monotone, and what is not.
 use Rattle.std.proofs.Common.{◌≡◌, ℕ, suc, ◌≤◌, Bool, true, false, cond, not, eqb, leb, List, [], ◌∷◌, length, refl, ◌∙◌, inl, inr, arith}
+use Rattle.std.specs.List.{list_any}
 use Rattle.std.proofs.lemmas.Bool.{and_parts, and_from, or_cases, or_left, or_right, both_ways, not-true, not_from_true, not_from_false, le-leb, lt-ltb, eq-eqb, eqb-true, cases_Bool}
-use Rattle.subset.specs.Parts.{any, has, within, without, all_parts}
+use Rattle.subset.specs.Parts.{has, within, without, all_parts}
 use Rattle.subset.proofs.Lists.{Row, row_all, row_without, row_to, every_has, has_every, has_without, without_some, those_in, those_out, length_all}
 use Rattle.subset.proofs.Order.{must_false}
 use Rattle.subset.proofs.Changes.{has_all}
@@ -19,11 +20,10 @@ fails_so b e = rw e
 within_more : (set ks js : List ℕ) → within ks js ≡ true → within set ks ≡ true → within set js ≡ true
 within_more set ks js h e = every_has (has js) set (λ y g. has_every (has js) ks y h (has_every (has ks) set y e g))
 
-any_more : (sets : List (List ℕ)) (ks js : List ℕ) → within ks js ≡ true → any (λ set. within set ks) sets ≡ true → any (λ set. within set js) sets ≡ true
-unfolding any
+any_more : (sets : List (List ℕ)) (ks js : List ℕ) → within ks js ≡ true → list_any (λ set. within set ks) sets ≡ true → list_any (λ set. within set js) sets ≡ true
 any_more [] ks js h e = e
 any_more (set ∷ sets) ks js h e =
-    elim (or_cases (within set ks) (any (λ s. within s ks) sets) e)
+    elim (or_cases (within set ks) (list_any (λ s. within s ks) sets) e)
     [ inl a ↦ or_left (within set js) _ (within_more set ks js h a) | inr a ↦ or_right (within set js) _ (any_more sets ks js h a) ]
 
 pub sets_grow : SetsGrow

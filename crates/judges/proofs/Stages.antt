@@ -1,7 +1,8 @@
 -- Where a run stands while it goes on: with what is still to come it makes up the whole run, which keeps the promises.
 use Rattle.std.proofs.Common.{◌≡◌, ℕ, zero, suc, ◌+◌, ◌*◌, ◌<◌, ◌≤◌, Bool, true, false, cond, ◌&&◌, eqb, leb, List, [], ◌∷◌, length, take, sym, refl, ap, ◌∙◌, ap₂, inl, inr, mul-le-mul, arith}
+use Rattle.std.specs.List.{list_all}
 use Rattle.std.proofs.lemmas.Bool.{both_ways, and_from, and_parts, eqb-true, leb-true, eq-eqb, le-leb, lt-leb, ne_eqb, cases_lt, cases_Bool, cond_both}
-use Rattle.subset.specs.Parts.{every, all_parts, some_of}
+use Rattle.subset.specs.Parts.{all_parts, some_of}
 use Rattle.bisect.specs.Judge.{Judge, fails, Monotone}
 use Rattle.bisect.specs.Engine.{Event, parts, said, Act, ask, left, sound, refused, Ran, ran, told_refused, strayed, acted, runs, run_of, Steady}
 use Rattle.bisect.specs.Machine.{asking}
@@ -39,9 +40,8 @@ module _ (n : ℕ) (f : Judge) (P : List (List ℕ) → Type 0) (more : (q : Lis
   runs_keep (suc k) m ev qs p = acted_keeps qs _ (own.step m ev).act (λ v qs₁. runs_keep k (own.step m ev).memory (said v) qs₁) p
 
 -- ---- the whole run keeps the promises
-there : (n : ℕ) (f : Judge) (k : ℕ) → every (some_of n) (run_of k n own f).asked ≡ true
-unfolding every
-there n f k = runs_keep n f (λ qs. every (some_of n) qs ≡ true) (λ q qs. and_from (some_of n q) (every (some_of n) qs)) k own.start (parts n) [] refl
+there : (n : ℕ) (f : Judge) (k : ℕ) → list_all (some_of n) (run_of k n own f).asked ≡ true
+there n f k = runs_keep n f (λ qs. list_all (some_of n) qs ≡ true) (λ q qs. and_from (some_of n q) (list_all (some_of n) qs)) k own.start (parts n) [] refl
 
 pub whole_run : (n : ℕ) (f : Judge) → (k : ℕ) × Kept (Monotone f n) n f (run_of k n own f) × (length (run_of k n own f).asked ≤ most)
 unfolding Demands LeanLeast

@@ -1,6 +1,7 @@
 -- What a reducer promises of one run against a judge. Assumes nothing: these are definitions.
 use Rattle.std.specs.Prelude.{◌≡◌, ℕ, ◌+◌, ◌*◌, ◌<◌, ◌≤◌, true, false, [], ◌∷◌, length}
-use Rattle.subset.specs.Parts.{every, all_parts, some_of}
+use Rattle.std.specs.List.{list_all}
+use Rattle.subset.specs.Parts.{all_parts, some_of}
 use Rattle.bisect.specs.Judge.{Judge, fails, Least}
 use Rattle.bisect.specs.Engine.{Ran, ran, told_sound, told_refused}
 use Rattle.bisect.specs.Promise.{Lessened, Bounded}
@@ -19,4 +20,4 @@ pub record Kept (grows : Type 0) (n : ℕ) (f : Judge) (R : Ran) : Type 0 where
   pub sound : n ≤ 4096 → fails f (all_parts n) ≡ false → R ≡ ran (all_parts n ∷ []) told_sound []
   pub left : n ≤ 4096 → fails f (all_parts n) ≡ true → Leaves grows n f R
   -- and it asks of nothing that isn't there
-  pub there : every (some_of n) R.asked ≡ true
+  pub there : list_all (some_of n) R.asked ≡ true

@@ -1,6 +1,7 @@
 -- Sets of parts, spelled in a row. Assumes nothing: these are definitions.
 use Rattle.std.specs.Prelude.{◌≡◌, ℕ, zero, suc, Bool, cond, List, [], ◌∷◌, length, take, drop}
-use Rattle.subset.specs.Parts.{any, within}
+use Rattle.std.specs.List.{list_any}
+use Rattle.subset.specs.Parts.{within}
 use Rattle.bisect.specs.Judge.{Judge, Monotone}
 
 -- at most k sets of a row that has a length, then so many parts, again and again; what the end cuts short has what there is
@@ -15,7 +16,7 @@ sets_of row = sets_from (length row) row
 
 -- ks has all of one of the sets
 abbrev pub has_one : List ℕ → List ℕ → Bool
-has_one row ks = any (λ set. within set ks) (sets_of row)
+has_one row ks = list_any (λ set. within set ks) (sets_of row)
 
 abbrev pub by_sets : List ℕ → Judge
 by_sets row ks = cond (has_one row ks) 1 0

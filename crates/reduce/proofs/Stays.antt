@@ -1,7 +1,8 @@
 -- The machine over lists between two answers, whatever its cuts are: where it stands is right, and so many more questions are enough.
 use Rattle.std.proofs.Common.{◌≡◌, ℕ, zero, suc, ◌+◌, ◌<◌, ◌≤◌, Bool, true, false, not, ltb, List, [], ◌∷◌, length, get_or, take, refl, ap, ◌∙◌, le_of_suc-le-suc, not-suc-le-zero, arith, take_all, take-suc}
+use Rattle.std.specs.List.{list_all}
 use Rattle.std.proofs.lemmas.Bool.{and_from, ltb-true, ltb-false, not_from_false, cond_both}
-use Rattle.subset.specs.Parts.{every, some_of, without, has}
+use Rattle.subset.specs.Parts.{some_of, without, has}
 use Rattle.subset.proofs.Lists.{every_cons, every_append, has_get_or, without_some, length_without}
 use Rattle.bisect.specs.Judge.{Judge, fails, lean, Monotone}
 use Rattle.bisect.specs.Search.{Pass, fresh, question, answered}
@@ -32,7 +33,7 @@ pub record Trying (n : ℕ) (f : Judge) (i : ℕ) (ks : List ℕ) : Type 0 where
   pub small : length ks ≤ 4096
   pub some : some_of n ks ≡ true
   pub bad : fails f ks ≡ true
-  pub tried : every (λ k. not (fails f (without k ks))) (take i ks) ≡ true
+  pub tried : list_all (λ k. not (fails f (without k ks))) (take i ks) ≡ true
   pub needs : Monotone f n → (x : ℕ) → has ks x ≡ true → fails f (without x ks) ≡ false
 
 -- k more questions are enough
@@ -94,6 +95,6 @@ module _ (n : ℕ) (f : Judge) (k : ℕ) where
         small = t.small;
         some = t.some;
         bad = t.bad;
-        tried = rw (take-suc ks i 0 h) (every_append _ (take i ks) (get_or ks i 0 ∷ []) t.tried (every_cons _ _ _ (not_from_false _ e) (unfold every in refl)));
+        tried = rw (take-suc ks i 0 h) (every_append _ (take i ks) (get_or ks i 0 ∷ []) t.tried (every_cons _ _ _ (not_from_false _ e) (refl)));
         needs = t.needs;
       }) (omega arith)

@@ -1,7 +1,7 @@
 -- The memory keeps its length, and its numbers stay within 64 bits.
 use Rattle.std.proofs.Common.{◌≡◌, ℕ, suc, ◌≤◌, true, eqb, ltb, List, length, get_or, sym, refl, ◌∙◌, arith}
+use Rattle.std.specs.List.{list_all}
 use Rattle.std.proofs.lemmas.Bool.{and_from, eqb-true, lt-ltb, cond_both}
-use Rattle.subset.specs.Parts.{every}
 use Rattle.subset.specs.Laws.{WordsSmall, all_small}
 use Rattle.subset.proofs.Stands.{words_small}
 use Rattle.bisect.specs.Engine.{Event, parts, said, refused, Steady}
@@ -24,7 +24,7 @@ abbrev Lows : Search → Type 0
 Lows s = Low s.lo × Low s.row × Low s.begun × Low s.spent × Low s.sure
 
 kept_well : (h : Header) (s : Search) (ks : List ℕ) → Low h.phase → Low h.size → Low h.index → Lows s → Well (kept h s ks)
-unfolding all_small every WordsSmall
+unfolding all_small WordsSmall
 kept_well h s ks p n i (l, r, b, u, v) = (
   length_kept h s ks,
   and_from _ _ (low p)
@@ -75,7 +75,7 @@ goes_keeps m (said v) h =
     (λ e. (refl, λ g. g))
 
 pub steady : Steady own
-unfolding Steady own every
+unfolding Steady own
 steady = (
   omega arith,
   refl,

@@ -1,6 +1,7 @@
 -- Worked examples, as one table that is computed. Assumes nothing: these are definitions.
 use Rattle.std.specs.Prelude.{◌≡◌, ℕ, zero, suc, ◌<◌, Bool, true, false, cond, ◌&&◌, ◌||◌, List, [], ◌∷◌, reverse, length, take, drop, ◌==◌, slice_index_or}
-use Rattle.subset.specs.Parts.{every, same, has}
+use Rattle.std.specs.List.{list_all}
+use Rattle.subset.specs.Parts.{same, has}
 use Rattle.bisect.specs.Judge.{Judge, fails, lean}
 use Rattle.bisect.specs.Engine.{Act, ask, left, sound, refused, Ran, told_left}
 use Rattle.bisect.specs.Machine.{plays}
@@ -85,7 +86,7 @@ table =
 
 -- every row of the table holds
 unfoldable pub Examples : Type 0
-Examples = every holds table ≡ true
+Examples = list_all holds table ≡ true
 
 -- so each row does
 unfoldable pub EachHolds : Type 0

@@ -1,11 +1,12 @@
 -- Whole words at a time: counted, filled, joined.
 use Rattle.std.proofs.Common.{◌≡◌, ℕ, zero, suc, ◌+◌, ◌-◌, ◌*◌, ◌/◌, ◌%◌, ◌^◌, ◌<◌, ◌≤◌, min, Bool, true, false, cond, not, ◌&&◌, ◌||◌, eqb, ltb, ◌⊎◌, List, [], ◌∷◌, ◌++◌, map, length, get_or, set, sym, refl, ap, ◌∙◌, ap₂, inl, inr, append_assoc, append-nil, arith, length-append, get_or-set_other, get_or-set_same, pow_pos, pow_mono}
+use Rattle.std.specs.List.{filter}
 use lib.Bits.{bit_or, or_lt}
 use lib.Count.{ones, ones_in, ones_step}
 use lib.ListN.{length-map}
 use Rattle.std.proofs.lemmas.List.{get_or_past}
 use Rattle.std.proofs.lemmas.Bool.{lt-ltb, le-ltb, cases_eq, cases_lt}
-use Rattle.subset.specs.Parts.{those, all_parts, has}
+use Rattle.subset.specs.Parts.{all_parts, has}
 use Rattle.subset.specs.Row.{digit, bit, members, joined}
 use Rattle.subset.specs.Says.{Holds}
 use Rattle.subset.proofs.Lists.{length_those, length_all}
@@ -15,13 +16,12 @@ use Rattle.subset.proofs.Digits.{digit_zero, digit_suc, digit_none, digit_small,
 use Rattle.subset.proofs.Words.{has_members, holds}
 
 -- ---- the parts below a + b: those below a, and then as many of the next b
-those_append : (f : ℕ → Bool) (xs ys : List ℕ) → those f (xs ++ ys) ≡ those f xs ++ those f ys
-unfolding those
+those_append : (f : ℕ → Bool) (xs ys : List ℕ) → filter f (xs ++ ys) ≡ filter f xs ++ filter f ys
 those_append f [] ys = refl
 those_append f (x ∷ xs) ys = go (f x) (those_append f xs ys)
   where
-    go : (t : Bool) → those f (xs ++ ys) ≡ those f xs ++ those f ys
-        → cond t (x ∷ those f (xs ++ ys)) (those f (xs ++ ys)) ≡ cond t (x ∷ those f xs) (those f xs) ++ those f ys
+    go : (t : Bool) → filter f (xs ++ ys) ≡ filter f xs ++ filter f ys
+        → cond t (x ∷ filter f (xs ++ ys)) (filter f (xs ++ ys)) ≡ cond t (x ∷ filter f xs) (filter f xs) ++ filter f ys
     go true e = ap (λ r. x ∷ r) e
     go false e = e
 
@@ -29,7 +29,7 @@ abbrev one_if : Bool → ℕ → List ℕ
 one_if b n = cond b (n ∷ []) []
 
 upto_suc : (f : ℕ → Bool) (n : ℕ) → upto f (suc n) ≡ upto f n ++ one_if (f n) n
-unfolding all_parts those
+unfolding all_parts
 upto_suc f n = those_append f (all_parts n) (n ∷ [])
 
 map_append : (f : ℕ → ℕ) (xs ys : List ℕ) → map f (xs ++ ys) ≡ map f xs ++ map f ys
@@ -41,7 +41,7 @@ map_one f true n = refl
 map_one f false n = refl
 
 pub upto_add : (f g : ℕ → Bool) (a b : ℕ) → ((c : ℕ) → c < b → f (a + c) ≡ g c) → upto f (a + b) ≡ upto f a ++ map (λ c. a + c) (upto g b)
-unfolding all_parts those
+unfolding all_parts
 upto_add f g a zero h = ap (upto f) (let z : a + 0 ≡ a = omega arith in z) ∙ sym (append-nil (upto f a))
 upto_add f g a (suc b) h =
     ap (upto f) (let z : a + suc b ≡ suc (a + b) = omega arith in z) ∙ upto_suc f (a + b)
@@ -96,7 +96,7 @@ unfolding ones ones_in
 ones_zero = refl
 
 digits_counted : (k w : ℕ) → w < 2 ^ k → length (upto (digit w) k) ≡ ones w
-unfolding all_parts those
+unfolding all_parts
 digits_counted zero w p = sym (ap ones (let e : w ≡ 0 = omega arith in e) ∙ ones_zero)
 digits_counted (suc k) w p =
     let one : upto (digit w) 1 ≡ one_if (digit w 0) 0 = upto_suc (digit w) 0 in

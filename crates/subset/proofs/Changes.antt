@@ -1,9 +1,10 @@
 -- What each change of a subset does to the test of a part, and that it leaves a subset.
 use Rattle.std.proofs.Common.{◌≡◌, ℕ, zero, suc, ◌<◌, ◌≤◌, Bool, true, false, not, ◌&&◌, ◌||◌, eqb, ltb, leb, ◌⊎◌, List, [], ◌∷◌, ◌++◌, length, take, drop, sym, refl, ap, ◌∙◌, ap₂, inl, inr, arith}
+use Rattle.std.specs.List.{filter, list_any}
 use mathlib.Core.Bool.{and-true, and-false}
 use lib.Dec.{leb-suc-suc}
 use Rattle.std.proofs.lemmas.Bool.{ltb-true, lt-ltb, le-ltb, le-leb, lt-leb, eq-eqb, ne_eqb, cases_Bool, cases_order, both_ways, and_parts, and_from}
-use Rattle.subset.specs.Parts.{any, those, all_parts, some_of, without, has}
+use Rattle.subset.specs.Parts.{all_parts, some_of, without, has}
 use Rattle.subset.specs.Row.{with_part, cut_out, joined, rank}
 use Rattle.subset.proofs.Lists.{Row, row_lower, row_from, row_to, row_those, row_keep, row_all, row_wider, has_those, those_has, those_in, those_out}
 use Rattle.subset.proofs.Order.{row_has}
@@ -14,7 +15,6 @@ bool_ext false true f g = g refl
 bool_ext false false f g = refl
 
 pub has_append : (xs ys : List ℕ) (q : ℕ) → has (xs ++ ys) q ≡ (has xs q || has ys q)
-unfolding any
 has_append [] ys q = refl
 has_append (x ∷ xs) ys q = go (eqb q x) (has_append xs ys q)
   where
@@ -23,16 +23,14 @@ has_append (x ∷ xs) ys q = go (eqb q x) (has_append xs ys q)
     go false e = e
 
 pub has_cons : (x : ℕ) (xs : List ℕ) (q : ℕ) → has (x ∷ xs) q ≡ (eqb q x || has xs q)
-unfolding any
 has_cons x xs q = refl
 
 pub has_none : (q : ℕ) → has [] q ≡ false
-unfolding any
 has_none q = refl
 
-pub has_filtered : (f : ℕ → Bool) (ks : List ℕ) (q : ℕ) → has (those f ks) q ≡ (has ks q && f q)
+pub has_filtered : (f : ℕ → Bool) (ks : List ℕ) (q : ℕ) → has (filter f ks) q ≡ (has ks q && f q)
 has_filtered f ks q =
-    bool_ext (has (those f ks) q) (has ks q && f q) (λ h. let w = has_those f ks q h in and_from _ _ w.0 w.1)
+    bool_ext (has (filter f ks) q) (has ks q && f q) (λ h. let w = has_those f ks q h in and_from _ _ w.0 w.1)
     (λ h. let w = and_parts (has ks q) (f q) h in those_has f ks q w.0 w.1)
 
 pub has_all : (n q : ℕ) → has (all_parts n) q ≡ ltb q n
@@ -48,7 +46,7 @@ has_all (suc n) q =
 
 -- the parts below n that pass f
 abbrev pub upto : (ℕ → Bool) → ℕ → List ℕ
-upto f n = those f (all_parts n)
+upto f n = filter f (all_parts n)
 
 pub has_upto : (f : ℕ → Bool) (n q : ℕ) → has (upto f n) q ≡ (ltb q n && f q)
 has_upto f n q = has_filtered f (all_parts n) q ∙ ap (λ b. b && f q) (has_all n q)
@@ -61,8 +59,8 @@ has_without p q ks = has_filtered (λ j. not (eqb j p)) ks q
 
 pub has_with : (p q : ℕ) (ks : List ℕ) → has (with_part p ks) q ≡ (eqb q p || has ks q)
 has_with p q ks =
-    has_append (those (λ j. ltb j p) ks) (p ∷ those (λ j. ltb p j) ks) q
-    ∙ ap₂ ◌||◌ (has_filtered (λ j. ltb j p) ks q) (has_cons p (those (λ j. ltb p j) ks) q ∙ ap (λ b. eqb q p || b) (has_filtered (λ j. ltb p j) ks q))
+    has_append (filter (λ j. ltb j p) ks) (p ∷ filter (λ j. ltb p j) ks) q
+    ∙ ap₂ ◌||◌ (has_filtered (λ j. ltb j p) ks q) (has_cons p (filter (λ j. ltb p j) ks) q ∙ ap (λ b. eqb q p || b) (has_filtered (λ j. ltb p j) ks q))
     ∙ go (has ks q) (cases_order q p)
   where
     go : (h : Bool) → (q ≡ p) ⊎ ((q < p) ⊎ (p < q)) → ((h && ltb q p) || (eqb q p || (h && ltb p q))) ≡ (eqb q p || h)
@@ -78,7 +76,7 @@ row_not : (b n : ℕ) (ks : List ℕ) (q : ℕ) → q < b → Row b n ks → has
 row_not b n ks q l r = bool_ext (has ks q) false (λ h. absurd (omega (arith, row_has b n ks q r h))) (λ h. absurd (both_ways _ refl h))
 
 none_below : (b n : ℕ) (ks : List ℕ) (q : ℕ) → q ≤ b → Row b n ks → rank ks q ≡ 0
-none_below b n [] q l r = unfold those in refl
+none_below b n [] q l r = refl
 none_below b n (k ∷ ks) q l r =
     ap length (those_out (λ j. ltb j q) k ks (le-ltb k q (omega arith))) ∙ none_below (suc k) n ks q (omega arith) r.2
 
@@ -121,16 +119,16 @@ has_cut n a b q ks s =
     go false = refl
 
 -- ---- subsets
-row_below : (b n p : ℕ) (ks : List ℕ) → Row b n ks → Row b p (those (λ j. ltb j p) ks)
-row_below b n p [] r = unfold those in tt
+row_below : (b n p : ℕ) (ks : List ℕ) → Row b n ks → Row b p (filter (λ j. ltb j p) ks)
+row_below b n p [] r = tt
 row_below b n p (k ∷ ks) r =
     elim (cases_Bool (ltb k p)) [
       | inl e ↦ rw (those_in (λ j. ltb j p) k ks e) (r.0, ltb-true k p e, row_below (suc k) n p ks r.2)
-      | inr e ↦ rw (those_out (λ j. ltb j p) k ks e) (row_lower b (suc k) p (those (λ j. ltb j p) ks) (omega arith) (row_below (suc k) n p ks r.2))
+      | inr e ↦ rw (those_out (λ j. ltb j p) k ks e) (row_lower b (suc k) p (filter (λ j. ltb j p) ks) (omega arith) (row_below (suc k) n p ks r.2))
     ]
 
-row_above : (b n p : ℕ) (ks : List ℕ) → Row b n ks → Row (suc p) n (those (λ j. ltb p j) ks)
-row_above b n p [] r = unfold those in tt
+row_above : (b n p : ℕ) (ks : List ℕ) → Row b n ks → Row (suc p) n (filter (λ j. ltb p j) ks)
+row_above b n p [] r = tt
 row_above b n p (k ∷ ks) r =
     elim (cases_Bool (ltb p k)) [
       | inl e ↦ rw (those_in (λ j. ltb p j) k ks e) (ltb-true p k e, r.1, row_those (λ j. ltb p j) (suc k) n ks r.2)
@@ -145,13 +143,13 @@ pub some_of_with : (n p : ℕ) (ks : List ℕ) → p < n → some_of n ks ≡ tr
 some_of_with n p ks h s =
     let r = row_from n ks s in
     row_to 0 n (with_part p ks)
-    (row_splice 0 p n (those (λ j. ltb j p) ks) (those (λ j. ltb p j) ks) (omega arith) h (row_below 0 n p ks r) (row_above 0 n p ks r))
+    (row_splice 0 p n (filter (λ j. ltb j p) ks) (filter (λ j. ltb p j) ks) (omega arith) h (row_below 0 n p ks r) (row_above 0 n p ks r))
 
 pub some_of_cut : (n a b : ℕ) (ks : List ℕ) → a ≤ b → some_of n ks ≡ true → some_of n (cut_out a b ks) ≡ true
 some_of_cut n a b ks h s = row_to 0 n (cut_out a b ks) (row_keep a b 0 n ks h (row_from n ks s))
 
-pub some_of_those : (n : ℕ) (f : ℕ → Bool) (ks : List ℕ) → some_of n ks ≡ true → some_of n (those f ks) ≡ true
-some_of_those n f ks s = row_to 0 n (those f ks) (row_those f 0 n ks (row_from n ks s))
+pub some_of_those : (n : ℕ) (f : ℕ → Bool) (ks : List ℕ) → some_of n ks ≡ true → some_of n (filter f ks) ≡ true
+some_of_those n f ks s = row_to 0 n (filter f ks) (row_those f 0 n ks (row_from n ks s))
 
 pub some_of_all : (n m : ℕ) → n ≤ m → some_of m (all_parts n) ≡ true
 some_of_all n m h = row_to 0 m (all_parts n) (row_wider 0 n m (all_parts n) h (row_all n))

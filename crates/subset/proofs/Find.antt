@@ -1,5 +1,6 @@
 -- The first member of a kind, found word by word.
 use Rattle.std.proofs.Common.{◌≡◌, ℕ, suc, ◌+◌, ◌-◌, ◌*◌, ◌^◌, ◌<◌, ◌≤◌, min, Bool, true, false, not, ◌&&◌, eqb, ltb, leb, ◌⊎◌, List, [], ◌∷◌, ◌++◌, map, length, get_or, drop, sym, refl, ap, ◌∙◌, ap₂, inl, inr, append_assoc, arith, length-drop}
+use Rattle.std.specs.List.{filter}
 use lib.Bits.{bit_and}
 use lib.Count.{count_trailing_zeros}
 use lib.ListN.{length-map}
@@ -7,7 +8,7 @@ use lib.Seq.{drop-append-add, drop-append-le}
 use borrow.Author.Numbers.{trailing_lt}
 use Rattle.std.proofs.lemmas.List.{drop_all, drop-map}
 use Rattle.std.proofs.lemmas.Bool.{lt-ltb, le-ltb, le-leb, lt-leb, ne_eqb, cases_lt, cases_eq, both_ways, and_parts, not-true, not-false}
-use Rattle.subset.specs.Parts.{those, some_of, within, has}
+use Rattle.subset.specs.Parts.{some_of, within, has}
 use Rattle.subset.specs.Row.{digit, bit, members}
 use Rattle.subset.specs.Says.{found}
 use Rattle.subset.specs.declared.Found.TheVariants.{Part, Nothing}
@@ -88,18 +89,18 @@ from_word ws part i m b e small l =
     go (inl k) = lt-leb part (64 * i + b) (omega arith) ∙ ap not (sym (lt-ltb b (min (part - 64 * i) 64) k))
     go (inr k) = le-leb part (64 * i + b) (omega arith) ∙ ap not (sym (le-ltb b (min (part - 64 * i) 64) k))
 
-has_from : (ws : List ℕ) (part q : ℕ) → has (those (leb part) (members ws)) q ≡ from_on ws part q
+has_from : (ws : List ℕ) (part q : ℕ) → has (filter (leb part) (members ws)) q ≡ from_on ws part q
 has_from ws part q = has_filtered (leb part) (members ws) q ∙ ap (λ b. b && leb part q) (has_members ws q)
 
 pub from_found : (ws : List ℕ) (part p : ℕ) → from_on ws part p ≡ true → ((q : ℕ) → q < p → from_on ws part q ≡ false)
-    → Part p ≡ found true (those (leb part) (members ws))
+    → Part p ≡ found true (filter (leb part) (members ws))
 from_found ws part p on off =
-    found_first (64 * length ws) (those (leb part) (members ws)) p
+    found_first (64 * length ws) (filter (leb part) (members ws)) p
     (some_of_those (64 * length ws) (leb part) (members ws) (some_of_members ws (length ws) refl))
     (has_from ws part p ∙ on) (λ q l. has_from ws part q ∙ off q l)
 
-pub from_none : (ws : List ℕ) (part : ℕ) → ((q : ℕ) → q < 64 * length ws → from_on ws part q ≡ false) → Nothing ≡ found true (those (leb part) (members ws))
-from_none ws part off = found_none (those (leb part) (members ws)) (λ q. has_from ws part q ∙ go q (cases_lt q (64 * length ws)))
+pub from_none : (ws : List ℕ) (part : ℕ) → ((q : ℕ) → q < 64 * length ws → from_on ws part q ≡ false) → Nothing ≡ found true (filter (leb part) (members ws))
+from_none ws part off = found_none (filter (leb part) (members ws)) (λ q. has_from ws part q ∙ go q (cases_lt q (64 * length ws)))
   where
     go : (q : ℕ) → (q < 64 * length ws) ⊎ (64 * length ws ≤ q) → from_on ws part q ≡ false
     go q (inl l) = off q l

@@ -1,7 +1,8 @@
 -- Laws of every, any, those and rising over lists of parts.
 use Rattle.std.proofs.Common.{◌≡◌, ℕ, zero, suc, ◌<◌, ◌≤◌, Bool, true, false, cond, not, eqb, ◌⊎◌, List, [], ◌∷◌, ◌++◌, length, get_or, take, drop, sym, refl, ap, inl, inr, le_of_suc-le-suc, not-suc-le-zero, arith, length-append, take-append-drop}
+use Rattle.std.specs.List.{filter, list_all, list_any}
 use Rattle.std.proofs.lemmas.Bool.{and_parts, and_from, ltb-true, lt-ltb, eqb-true, eqb-false, eq-eqb, ne_eqb, both_ways, cases_Bool, or_cases, or_left, or_right, not-true, not_from_true, not_from_false}
-use Rattle.subset.specs.Parts.{every, any, those, rising, some_of, without, has, within, all_parts}
+use Rattle.subset.specs.Parts.{rising, some_of, without, has, within, all_parts}
 
 -- a rising row from b up, below n
 abbrev pub Row : ℕ → ℕ → List ℕ → Type 0
@@ -13,7 +14,7 @@ row_lower a b n [] h r = tt
 row_lower a b n (k ∷ ks) h r = (omega arith, r.1, r.2)
 
 pub row_from : (n : ℕ) (ks : List ℕ) → some_of n ks ≡ true → Row 0 n ks
-unfolding rising every
+unfolding rising
 row_from n [] h = tt
 row_from n (k ∷ []) h = (omega arith, ltb-true k n (and_parts _ _ h).0, tt)
 row_from n (k ∷ j ∷ ks) h =
@@ -24,19 +25,18 @@ row_from n (k ∷ j ∷ ks) h =
     (omega arith, ltb-true k n h₃.0, (ltb-true k j h₂.0, w.1, w.2))
 
 pub row_to : (b n : ℕ) (ks : List ℕ) → Row b n ks → some_of n ks ≡ true
-unfolding rising every
+unfolding rising
 row_to b n [] r = refl
 row_to b n (k ∷ []) r = and_from _ _ (lt-ltb k n r.1) refl
 row_to b n (k ∷ j ∷ ks) r =
     let w = and_parts _ _ (row_to (suc k) n (j ∷ ks) r.2) in
     and_from _ _ (and_from _ _ (lt-ltb k j r.2.0) w.0) (and_from _ _ (lt-ltb k n r.1) w.1)
 
-pub row_those : (p : ℕ → Bool) (b n : ℕ) (ks : List ℕ) → Row b n ks → Row b n (those p ks)
-unfolding those
+pub row_those : (p : ℕ → Bool) (b n : ℕ) (ks : List ℕ) → Row b n ks → Row b n (filter p ks)
 row_those p b n [] r = tt
 row_those p b n (k ∷ ks) r =
-    elim (p k) as (λ v. Row b n (cond v (k ∷ those p ks) (those p ks)))
-    [ true ↦ (r.0, r.1, row_those p (suc k) n ks r.2) | false ↦ row_lower b (suc k) n (those p ks) (omega arith) (row_those p (suc k) n ks r.2) ]
+    elim (p k) as (λ v. Row b n (cond v (k ∷ filter p ks) (filter p ks)))
+    [ true ↦ (r.0, r.1, row_those p (suc k) n ks r.2) | false ↦ row_lower b (suc k) n (filter p ks) (omega arith) (row_those p (suc k) n ks r.2) ]
 
 pub row_drop : (c b n : ℕ) (ks : List ℕ) → Row b n ks → Row b n (drop c ks)
 row_drop zero b n ks r = r
@@ -59,42 +59,36 @@ row_all zero = tt
 row_all (suc n) = row_push 0 n (suc n) (all_parts n) (omega arith) (omega arith) (row_all n)
 
 -- every
-pub every_append : {A : Type 0} (p : A → Bool) (xs ys : List A) → every p xs ≡ true → every p ys ≡ true → every p (xs ++ ys) ≡ true
-unfolding every
+pub every_append : {A : Type 0} (p : A → Bool) (xs ys : List A) → list_all p xs ≡ true → list_all p ys ≡ true → list_all p (xs ++ ys) ≡ true
 every_append p [] ys a b = b
 every_append p (x ∷ xs) ys a b = and_from _ _ (and_parts _ _ a).0 (every_append p xs ys (and_parts _ _ a).1 b)
 
-pub every_cons : {A : Type 0} (p : A → Bool) (x : A) (xs : List A) → p x ≡ true → every p xs ≡ true → every p (x ∷ xs) ≡ true
-unfolding every
+pub every_cons : {A : Type 0} (p : A → Bool) (x : A) (xs : List A) → p x ≡ true → list_all p xs ≡ true → list_all p (x ∷ xs) ≡ true
 every_cons p x xs a b = and_from _ _ a b
 
-pub every_at : {A : Type 0} (p : A → Bool) (xs : List A) (i : ℕ) (d : A) → every p xs ≡ true → i < length xs → p (get_or xs i d) ≡ true
-unfolding every
+pub every_at : {A : Type 0} (p : A → Bool) (xs : List A) (i : ℕ) (d : A) → list_all p xs ≡ true → i < length xs → p (get_or xs i d) ≡ true
 every_at p [] i d h l = absurd (not-suc-le-zero l)
 every_at p (x ∷ xs) zero d h l = (and_parts _ _ h).0
 every_at p (x ∷ xs) (suc i) d h l = every_at p xs i d (and_parts _ _ h).1 (le_of_suc-le-suc l)
 
 -- has
-pub has_those : (p : ℕ → Bool) (ks : List ℕ) (y : ℕ) → has (those p ks) y ≡ true → (has ks y ≡ true) × (p y ≡ true)
-unfolding those any
+pub has_those : (p : ℕ → Bool) (ks : List ℕ) (y : ℕ) → has (filter p ks) y ≡ true → (has ks y ≡ true) × (p y ≡ true)
 has_those p [] y h = absurd (both_ways _ refl h)
 has_those p (k ∷ ks) y h = go (has_those p ks y) (p k) refl h
   where
-    go : (ih : has (those p ks) y ≡ true → (has ks y ≡ true) × (p y ≡ true)) (b : Bool) → p k ≡ b → has (cond b (k ∷ those p ks) (those p ks)) y ≡ true → (has (k ∷ ks) y ≡ true) × (p y ≡ true)
+    go : (ih : has (filter p ks) y ≡ true → (has ks y ≡ true) × (p y ≡ true)) (b : Bool) → p k ≡ b → has (cond b (k ∷ filter p ks) (filter p ks)) y ≡ true → (has (k ∷ ks) y ≡ true) × (p y ≡ true)
     go ih true e h = elim (or_cases _ _ h) [ inl a ↦ (or_left _ _ a, rw (eqb-true y k a) e) | inr a ↦ (or_right _ _ (ih a).0, (ih a).1) ]
     go ih false e h = (or_right _ _ (ih h).0, (ih h).1)
 
-pub those_has : (p : ℕ → Bool) (ks : List ℕ) (y : ℕ) → has ks y ≡ true → p y ≡ true → has (those p ks) y ≡ true
-unfolding those any
+pub those_has : (p : ℕ → Bool) (ks : List ℕ) (y : ℕ) → has ks y ≡ true → p y ≡ true → has (filter p ks) y ≡ true
 those_has p [] y h e = h
 those_has p (k ∷ ks) y h e = go (those_has p ks y) (p k) refl
   where
-    go : (ih : has ks y ≡ true → p y ≡ true → has (those p ks) y ≡ true) (b : Bool) → p k ≡ b → has (cond b (k ∷ those p ks) (those p ks)) y ≡ true
-    go ih true q = elim (or_cases (eqb y k) (has ks y) h) [ inl a ↦ or_left (eqb y k) (has (those p ks) y) a | inr a ↦ or_right (eqb y k) (has (those p ks) y) (ih a e) ]
+    go : (ih : has ks y ≡ true → p y ≡ true → has (filter p ks) y ≡ true) (b : Bool) → p k ≡ b → has (cond b (k ∷ filter p ks) (filter p ks)) y ≡ true
+    go ih true q = elim (or_cases (eqb y k) (has ks y) h) [ inl a ↦ or_left (eqb y k) (has (filter p ks) y) a | inr a ↦ or_right (eqb y k) (has (filter p ks) y) (ih a e) ]
     go ih false q = elim (or_cases (eqb y k) (has ks y) h) [ inl a ↦ absurd (both_ways (p k) q (rw (eqb-true y k a) at e)) | inr a ↦ ih a e ]
 
 pub has_append : (xs ys : List ℕ) (y : ℕ) → has (xs ++ ys) y ≡ true → (has xs y ≡ true) ⊎ (has ys y ≡ true)
-unfolding any
 has_append [] ys y h = inr h
 has_append (x ∷ xs) ys y h =
     elim (or_cases (eqb y x) (has (xs ++ ys) y) h) [
@@ -103,27 +97,22 @@ has_append (x ∷ xs) ys y h =
     ]
 
 pub has_left : (xs ys : List ℕ) (y : ℕ) → has xs y ≡ true → has (xs ++ ys) y ≡ true
-unfolding any
 has_left [] ys y h = absurd (both_ways _ refl h)
 has_left (x ∷ xs) ys y h =
     elim (or_cases (eqb y x) (has xs y) h)
     [ inl a ↦ or_left (eqb y x) (has (xs ++ ys) y) a | inr a ↦ or_right (eqb y x) (has (xs ++ ys) y) (has_left xs ys y a) ]
 
 pub has_right : (xs ys : List ℕ) (y : ℕ) → has ys y ≡ true → has (xs ++ ys) y ≡ true
-unfolding any
 has_right [] ys y h = h
 has_right (x ∷ xs) ys y h = or_right (eqb y x) (has (xs ++ ys) y) (has_right xs ys y h)
 
 pub has_head : (x : ℕ) (xs : List ℕ) → has (x ∷ xs) x ≡ true
-unfolding any
 has_head x xs = or_left (eqb x x) (has xs x) (eq-eqb x x refl)
 
 pub has_tail : (x : ℕ) (xs : List ℕ) (y : ℕ) → has xs y ≡ true → has (x ∷ xs) y ≡ true
-unfolding any
 has_tail x xs y h = or_right (eqb y x) (has xs y) h
 
 pub has_cons : (x : ℕ) (xs : List ℕ) (y : ℕ) → has (x ∷ xs) y ≡ true → (y ≡ x) ⊎ (has xs y ≡ true)
-unfolding any
 has_cons x xs y h = elim (or_cases (eqb y x) (has xs y) h) [ inl a ↦ inl (eqb-true y x a) | inr a ↦ inr a ]
 
 pub has_take : (c : ℕ) (ks : List ℕ) (y : ℕ) → has (take c ks) y ≡ true → has ks y ≡ true
@@ -137,13 +126,11 @@ has_get_or [] i h = absurd (not-suc-le-zero h)
 has_get_or (k ∷ ks) zero h = has_head k ks
 has_get_or (k ∷ ks) (suc i) h = has_tail k ks (get_or ks i 0) (has_get_or ks i (le_of_suc-le-suc h))
 
-pub every_has : (p : ℕ → Bool) (ks : List ℕ) → ((y : ℕ) → has ks y ≡ true → p y ≡ true) → every p ks ≡ true
-unfolding every
+pub every_has : (p : ℕ → Bool) (ks : List ℕ) → ((y : ℕ) → has ks y ≡ true → p y ≡ true) → list_all p ks ≡ true
 every_has p [] h = refl
 every_has p (k ∷ ks) h = and_from _ _ (h k (has_head k ks)) (every_has p ks (λ y e. h y (has_tail k ks y e)))
 
-pub has_every : (p : ℕ → Bool) (ks : List ℕ) (y : ℕ) → every p ks ≡ true → has ks y ≡ true → p y ≡ true
-unfolding every any
+pub has_every : (p : ℕ → Bool) (ks : List ℕ) (y : ℕ) → list_all p ks ≡ true → has ks y ≡ true → p y ≡ true
 has_every p [] y e h = absurd (both_ways _ refl h)
 has_every p (k ∷ ks) y e h =
     elim (has_cons k ks y h) [ inl a ↦ rw a (and_parts _ _ e).0 | inr a ↦ has_every p ks y (and_parts _ _ e).1 a ]
@@ -163,22 +150,19 @@ pub without_some : (x n : ℕ) (ks : List ℕ) → some_of n ks ≡ true → som
 without_some x n ks h = row_to 0 n (without x ks) (row_those (λ j. not (eqb j x)) 0 n ks (row_from n ks h))
 
 -- those p (k ∷ ks), by what p says of k
-pub those_in : {A : Type 0} (p : A → Bool) (k : A) (ks : List A) → p k ≡ true → those p (k ∷ ks) ≡ k ∷ those p ks
-unfolding those
+pub those_in : {A : Type 0} (p : A → Bool) (k : A) (ks : List A) → p k ≡ true → filter p (k ∷ ks) ≡ k ∷ filter p ks
 those_in p k ks e = rw e
 
-pub those_out : {A : Type 0} (p : A → Bool) (k : A) (ks : List A) → p k ≡ false → those p (k ∷ ks) ≡ those p ks
-unfolding those
+pub those_out : {A : Type 0} (p : A → Bool) (k : A) (ks : List A) → p k ≡ false → filter p (k ∷ ks) ≡ filter p ks
 those_out p k ks e = rw e
 
-pub length_those : (p : ℕ → Bool) (ks : List ℕ) → length (those p ks) ≤ length ks
-length_those p [] = unfold those in omega arith
+pub length_those : (p : ℕ → Bool) (ks : List ℕ) → length (filter p ks) ≤ length ks
+length_those p [] = omega arith
 length_those p (k ∷ ks) =
     elim (cases_Bool (p k))
     [ inl e ↦ rw (those_in p k ks e) (omega (arith, length_those p ks)) | inr e ↦ rw (those_out p k ks e) (omega (arith, length_those p ks)) ]
 
 pub length_without : (x : ℕ) (ks : List ℕ) → has ks x ≡ true → length (without x ks) < length ks
-unfolding any
 length_without x [] h = absurd (both_ways _ refl h)
 length_without x (k ∷ ks) h =
     elim (cases_Bool (eqb k x)) [
@@ -188,7 +172,7 @@ length_without x (k ∷ ks) h =
     ]
 
 pub row_without : (x b n : ℕ) (ks : List ℕ) → x < b → Row b n ks → without x ks ≡ ks
-row_without x b n [] h r = unfold those in refl
+row_without x b n [] h r = refl
 row_without x b n (k ∷ ks) h r =
     rw (those_in (λ j. not (eqb j x)) k ks (not_from_false _ (ne_eqb k x (λ e. omega arith)))) (ap {B = List ℕ} (λ l. k ∷ l) (row_without x (suc k) n ks (omega arith) r.2))
 

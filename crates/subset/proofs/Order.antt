@@ -1,7 +1,8 @@
 -- Subsets are known by their members.
 use Rattle.std.proofs.Common.{◌≡◌, ℕ, suc, ◌≤◌, Bool, true, false, ltb, List, [], ◌∷◌, sym, refl, ◌∙◌, subst, ap₂, inl, inr, arith}
+use Rattle.std.specs.List.{list_any}
 use Rattle.std.proofs.lemmas.Bool.{and_parts, and_from, eqb-true, eq-eqb, ltb-true, both_ways}
-use Rattle.subset.specs.Parts.{any, same, some_of, has}
+use Rattle.subset.specs.Parts.{same, some_of, has}
 use Rattle.subset.proofs.Lists.{Row, row_from, has_cons, has_head, has_tail, has_every}
 
 -- a Bool that is not true is false
@@ -10,7 +11,6 @@ must_false true h = absurd (h refl)
 must_false false h = refl
 
 pub none_has : (x : ℕ) → has [] x ≡ true → ⊥
-unfolding any
 none_has x h = both_ways _ refl h
 
 pub row_has : (b n : ℕ) (ks : List ℕ) (x : ℕ) → Row b n ks → has ks x ≡ true → b ≤ x

@@ -1,10 +1,11 @@
 -- Members cut out by rank, word by word.
 use Rattle.std.proofs.Common.{◌≡◌, ℕ, ◌+◌, ◌-◌, ◌*◌, ◌/◌, ◌%◌, ◌^◌, ◌<◌, ◌≤◌, Bool, true, false, not, ◌&&◌, ◌||◌, ltb, leb, ◌⊎◌, List, [], ◌∷◌, ◌++◌, map, length, get_or, take, drop, set, sym, refl, ap, ◌∙◌, ap₂, inl, inr, append-nil, arith, length-append, get_or-set_other, get_or-set_same}
+use Rattle.std.specs.List.{filter}
 use lib.Bits.{bit_and, bit_or}
 use lib.ListN.{length-map}
 use Rattle.std.proofs.lemmas.List.{drop_all}
 use Rattle.std.proofs.lemmas.Bool.{lt-ltb, le-ltb, le-leb, lt-leb, cases_lt, cases_eq}
-use Rattle.subset.specs.Parts.{those, some_of, has}
+use Rattle.subset.specs.Parts.{some_of, has}
 use Rattle.subset.specs.Row.{digit, bit, members, cut_out, rank}
 use Rattle.subset.specs.Says.{Holds}
 use Rattle.subset.proofs.Lists.{row_from}
@@ -18,7 +19,7 @@ use Rattle.subset.proofs.Lowest.{has_word}
 -- how many members come before a place
 rank_upto : (f : ℕ → Bool) (n p : ℕ) → p ≤ n → rank (upto f n) p ≡ length (upto f p)
 rank_upto f n p h =
-    ap length (subsets_same n (those (λ j. ltb j p) (upto f n)) (upto f p) (some_of_those n (λ j. ltb j p) (upto f n) (some_of_upto f n n (omega arith)))
+    ap length (subsets_same n (filter (λ j. ltb j p) (upto f n)) (upto f p) (some_of_those n (λ j. ltb j p) (upto f n) (some_of_upto f n n (omega arith)))
     (some_of_upto f p n h) (λ q. has_filtered (λ j. ltb j p) (upto f n) q ∙ ap (λ b. b && ltb q p) (has_upto f n q) ∙ go q (cases_lt q p) ∙ sym (has_upto f p q)))
   where
     go : (q : ℕ) → (q < p) ⊎ (p ≤ q) → ((ltb q n && f q) && ltb q p) ≡ (ltb q p && f q)

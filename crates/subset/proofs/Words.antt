@@ -1,12 +1,13 @@
 -- Rows of words, their bits and their members.
 use Rattle.std.proofs.Common.{◌≡◌, ℕ, zero, suc, ◌+◌, ◌-◌, ◌*◌, ◌/◌, ◌%◌, ◌^◌, ◌<◌, ◌≤◌, true, false, not, ◌&&◌, ◌||◌, eqb, ltb, ◌⊎◌, List, [], ◌∷◌, length, get_or, set, replicate, sym, refl, ap, ◌∙◌, ap₂, inl, inr, arith, length-set, get_or-set_other, get_or-set_same}
+use Rattle.std.specs.List.{list_all}
 use mathlib.Core.Bool.{and-true, and-false, or_comm}
 use lib.Bits.{bit_and, bit_or, or_lt, and_le_l}
 use lib.ListN.{length-replicate}
 use Rattle.std.proofs.lemmas.List.FromFn.{length-map-range_with_len, get_or-map-range_with_len, fill_by_all}
 use Rattle.std.proofs.lemmas.List.{get_or_past, get_or-replicate, set_past}
 use Rattle.std.proofs.lemmas.Bool.{lt-ltb, ltb-true, eq-eqb, ne_eqb, cases_eq, cases_lt, and_parts}
-use Rattle.subset.specs.Parts.{every, all_parts, some_of, without, has}
+use Rattle.subset.specs.Parts.{all_parts, some_of, without, has}
 use Rattle.subset.specs.Row.{digit, bit, members, word_by, words_by, words_of, with_part}
 use Rattle.subset.specs.Says.{Holds}
 use Rattle.subset.specs.Laws.{all_small}
@@ -20,13 +21,13 @@ abbrev pub Small : List ℕ → Type 0
 Small ws = (i : ℕ) → get_or ws i 0 < 2 ^ 64
 
 pub small_from : (ws : List ℕ) → all_small ws ≡ true → Small ws
-unfolding all_small every
+unfolding all_small
 small_from [] h i = omega arith
 small_from (w ∷ ws) h zero = ltb-true w 18446744073709551616 (and_parts (ltb w 18446744073709551616) (all_small ws) h).0
 small_from (w ∷ ws) h (suc i) = small_from ws (and_parts (ltb w 18446744073709551616) (all_small ws) h).1 i
 
 pub small_to : (ws : List ℕ) → Small ws → all_small ws ≡ true
-unfolding all_small every
+unfolding all_small
 small_to [] h = refl
 small_to (w ∷ ws) h = ap₂ ◌&&◌ (lt-ltb w 18446744073709551616 (h 0)) (small_to ws (λ i. h (suc i)))
 

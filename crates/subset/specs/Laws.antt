@@ -1,11 +1,12 @@
 -- What holds of rows, as statements. Assumes nothing: these are definitions.
 use Rattle.std.specs.Prelude.{◌≡◌, ℕ, ◌*◌, ◌<◌, ◌≤◌, Bool, true, not, ◌&&◌, ◌||◌, ltb, List, [], length, take, drop, replicate, ◌==◌, nat_le, nat_lt}
-use Rattle.subset.specs.Parts.{every, same, all_parts, some_of, without, has}
+use Rattle.std.specs.List.{list_all}
+use Rattle.subset.specs.Parts.{same, all_parts, some_of, without, has}
 use Rattle.subset.specs.Row.{members, words_of, with_part, cut_out, joined, rank, alike}
 
 -- every number has 64 bits
 unfoldable pub all_small : List ℕ → Bool
-all_small ws = every (λ w. ltb w 18446744073709551616) ws
+all_small ws = list_all (λ w. ltb w 18446744073709551616) ws
 
 -- a subset of 64 * n parts is told by its n words
 unfoldable pub ToldBack : Type 0

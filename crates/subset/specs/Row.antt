@@ -1,7 +1,8 @@
 -- A subset as a row of words: part p is in it where bit p % 64 of word p / 64 is set. Assumes nothing: these are definitions.
 use Rattle.std.specs.Prelude.{ℕ, zero, suc, ◌+◌, ◌*◌, ◌/◌, ◌%◌, ◌^◌, Bool, cond, ◌&&◌, ◌||◌, List, ◌∷◌, ◌++◌, map, length, take, drop, ◌==◌, nat_lt, slice_index}
+use Rattle.std.specs.List.{filter}
 use Rattle.std.specs.List.{range_with_len}
-use Rattle.subset.specs.Parts.{those, all_parts, has, within}
+use Rattle.subset.specs.Parts.{all_parts, has, within}
 
 -- bit b of a number
 unfoldable pub digit : ℕ → ℕ → Bool
@@ -13,7 +14,7 @@ bit ws p = digit (slice_index ws (p / 64)) (p % 64)
 
 -- the members, rising
 unfoldable pub members : List ℕ → List ℕ
-members ws = those (bit ws) (all_parts (64 * length ws))
+members ws = filter (bit ws) (all_parts (64 * length ws))
 
 -- the number whose lowest k bits are f's
 unfoldable pub number : (ℕ → Bool) → ℕ → ℕ
@@ -32,7 +33,7 @@ words_of n ks = words_by (has ks) n
 
 -- with p put in
 abbrev pub with_part : ℕ → List ℕ → List ℕ
-with_part p ks = those (λ j. nat_lt j p) ks ++ p ∷ those (λ j. nat_lt p j) ks
+with_part p ks = filter (λ j. nat_lt j p) ks ++ p ∷ filter (λ j. nat_lt p j) ks
 
 -- with those whose rank is in from..to taken out
 abbrev pub cut_out : ℕ → ℕ → List ℕ → List ℕ
@@ -40,11 +41,11 @@ cut_out from to ks = take from ks ++ drop to ks
 
 -- what is in either, below n
 abbrev pub joined : ℕ → List ℕ → List ℕ → List ℕ
-joined n ks js = those (λ p. has ks p || has js p) (all_parts n)
+joined n ks js = filter (λ p. has ks p || has js p) (all_parts n)
 
 -- how many members come before p
 abbrev pub rank : List ℕ → ℕ → ℕ
-rank ks p = length (those (λ j. nat_lt j p) ks)
+rank ks p = length (filter (λ j. nat_lt j p) ks)
 
 -- the half of the members, rounded down
 abbrev pub half : List ℕ → ℕ

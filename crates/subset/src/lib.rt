@@ -2,8 +2,9 @@
 #![tactic(auto)]
 
 ghost use Rattle.std.specs.Prelude.{◌≡◌, ℕ, ◌+◌, ◌-◌, ◌*◌, ◌/◌, ◌%◌, ◌^◌, ◌<◌, ◌≤◌, min, true, not, ◌&&◌, leb, List, [], ◌∷◌, ◌++◌, map, length, take, drop, ◌==◌, nat_le, nat_lt, slice_index};
+ghost use Rattle.std.specs.List.{filter};
 ghost use Rattle.subset.specs.Laws.{Changes, EqualSame, KnownByMembers, MembersRise, SameMembers, SubsetsStay, TakenOut, ToldBack, WordsSmall};
-ghost use Rattle.subset.specs.Parts.{all_parts, has, those, within, without};
+ghost use Rattle.subset.specs.Parts.{all_parts, has, within, without};
 ghost use Rattle.subset.specs.Row.{alike, cut_out, half, joined, members, with_part, words_of};
 ghost use Rattle.subset.specs.Says.{After, Holds, Told, counted, few, found, laid, room};
 
@@ -195,7 +196,7 @@ fn drop_lowest(mut word: u64, mut count: u64) -> u64
 
 fn first_from(words: &[u64], part: u64) -> Found
     requires { length words.now ≤ 64 }
-    ensures { result ≡ found true (those (leb part) (members words.now)) }
+    ensures { result ≡ found true (filter (leb part) (members words.now)) }
 {
     for i in 0..words.len() {
         let base = 64 * i as u64;
@@ -209,7 +210,7 @@ fn first_from(words: &[u64], part: u64) -> Found
 
 // The least member from a part on.
 pub fn next_from(words: &[u64], part: u64) -> Found
-    ensures { result ≡ found (few words.now) (those (leb part) (members words.now)) }
+    ensures { result ≡ found (few words.now) (filter (leb part) (members words.now)) }
 {
     if words.len() > LONGEST {
         return Found::Refused;

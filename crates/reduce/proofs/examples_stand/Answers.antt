@@ -1,5 +1,6 @@
 use Rattle.std.proofs.Common.{refl}
-use Rattle.subset.specs.Parts.{every, any, those, same, all_parts, rising}
+use Rattle.std.specs.List.{filter, list_all, list_any}
+use Rattle.subset.specs.Parts.{same, all_parts, rising}
 use Rattle.subset.proofs.Lists.{every_at}
 use Rattle.bisect.specs.Engine.{acted}
 use Rattle.bisect.specs.Machine.{plays}
@@ -10,7 +11,7 @@ use Rattle.reduce.proofs.examples_stand.Goals as goal
 
 -- the table is computed
 computed : Examples
-unfolding Examples alike after plays acted begin act_by next_by go_on trial keep all_parts rising same those any every
+unfolding Examples alike after plays acted begin act_by next_by go_on trial keep all_parts rising same
 computed = refl
 
 pub returns : goal.returns

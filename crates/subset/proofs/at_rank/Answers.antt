@@ -1,12 +1,13 @@
 use Rattle.std.proofs.Common.{◌+◌, ◌*◌, length, refl, ap, arith}
-use Rattle.subset.specs.Parts.{those, all_parts}
+use Rattle.std.specs.List.{filter}
+use Rattle.subset.specs.Parts.{all_parts}
 use Rattle.subset.specs.Row.{bit}
 use Rattle.subset.proofs.Blocks.{told_word, length_upto_le, upto_all}
 use Rattle.subset.proofs.Find.{rank_found, rank_none}
 use Rattle.subset.proofs.at_rank.Goals as goal
 
 pub loop-i-init : goal.loop-i-init
-unfolding those all_parts
+unfolding all_parts
 loop-i-init c = (refl, omega arith)
 
 pub overflow_add-before : goal.overflow_add-before

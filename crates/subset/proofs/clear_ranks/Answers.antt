@@ -1,12 +1,13 @@
 use Rattle.std.proofs.Common.{◌≡◌, ℕ, ◌+◌, ◌-◌, ◌*◌, [], ◌∷◌, length, get_or, refl, ap, ◌∙◌, ap₂, arith, w64, Fits, rules}
-use Rattle.subset.specs.Parts.{those, all_parts}
+use Rattle.std.specs.List.{filter}
+use Rattle.subset.specs.Parts.{all_parts}
 use Rattle.subset.specs.Row.{bit, cut_out, members}
 use Rattle.subset.proofs.Blocks.{told_word, length_upto_le}
 use Rattle.subset.proofs.Ranks.{cutting_none, cutting_more, cut_done}
 use Rattle.subset.proofs.clear_ranks.Goals as goal
 
 pub loop-i-init : goal.loop-i-init
-unfolding those all_parts
+unfolding all_parts
 loop-i-init c =
     let small : (i : ℕ) → Fits w64 (get_or c.args.words.now i 0) = λ i. search rules in
     cutting_none c.args.from c.args.to c.args.words.now (λ i. (small i).fits) 0 refl

@@ -1,11 +1,12 @@
 use Rattle.std.proofs.Common.{◌+◌, ◌*◌, length, refl, ap, ◌∙◌, arith}
-use Rattle.subset.specs.Parts.{those, all_parts}
+use Rattle.std.specs.List.{filter}
+use Rattle.subset.specs.Parts.{all_parts}
 use Rattle.subset.specs.Row.{bit}
 use Rattle.subset.proofs.Blocks.{told_word, length_upto_le, upto_all}
 use Rattle.subset.proofs.ones.Goals as goal
 
 pub loop-word-init : goal.loop-word-init
-unfolding those all_parts
+unfolding all_parts
 loop-word-init c = refl
 
 pub overflow_add-sum : goal.overflow_add-sum

@@ -1,6 +1,7 @@
 use Rattle.std.proofs.Common.{◌≡◌, ℕ, ◌+◌, ◌*◌, List, [], ◌∷◌, ◌++◌, map, length, get_or, drop, sym, refl, ap, ◌∙◌, ap₂, arith}
+use Rattle.std.specs.List.{filter}
 use lib.ListN.{length-map}
-use Rattle.subset.specs.Parts.{those, all_parts}
+use Rattle.subset.specs.Parts.{all_parts}
 use Rattle.subset.specs.Row.{bit, members}
 use Rattle.subset.specs.Says.{laid}
 use Rattle.subset.proofs.Changes.{upto}
@@ -9,7 +10,7 @@ use Rattle.subset.proofs.Lowest.{laid_behind}
 use Rattle.subset.proofs.tell_all.Goals as goal
 
 pub loop-i-init : goal.loop-i-init
-unfolding those all_parts
+unfolding all_parts
 loop-i-init c = (refl, refl)
 
 pub tell_word-told-requires : goal.tell_word-told-requires

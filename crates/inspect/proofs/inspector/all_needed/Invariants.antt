@@ -1,5 +1,6 @@
 use Rattle.std.proofs.Common.{◌≡◌, not, drop}
-use Rattle.subset.specs.Parts.{every, without}
+use Rattle.std.specs.List.{list_all}
+use Rattle.subset.specs.Parts.{without}
 use Rattle.bisect.specs.Judge.{fails}
 use Rattle.inspect.specs.Inspector.{all_needed}
 use Rattle.inspect.proofs.inspector.all_needed.Given as goal
@@ -7,5 +8,5 @@ use Rattle.inspect.proofs.inspector.all_needed.Given as goal
 abbrev pub invariant-loop-p : goal.invariant-loop-p
 invariant-loop-p g l =
     (g.J.Judge.meaning l.judge ≡ g.J.Judge.meaning l.initial.judge)
-    × (every (λ k. not (fails (g.J.Judge.meaning l.initial.judge) (without k l.subset))) (drop l.p-index l.subset)
+    × (list_all (λ k. not (fails (g.J.Judge.meaning l.initial.judge) (without k l.subset))) (drop l.p-index l.subset)
     ≡ all_needed (g.J.Judge.meaning l.initial.judge) l.subset)

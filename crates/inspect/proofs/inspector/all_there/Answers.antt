@@ -1,5 +1,6 @@
 use Rattle.std.proofs.Common.{sym, ap, ◌∙◌}
-use Rattle.subset.specs.Parts.{every, some_of}
+use Rattle.std.specs.List.{list_all}
+use Rattle.subset.specs.Parts.{some_of}
 use Rattle.inspect.specs.Inspector.{there}
 use Rattle.judges.proofs.Rows.{every_first, every_rest}
 use Rattle.inspect.proofs.inspector.all_there.Goals as goal
@@ -15,5 +16,4 @@ loop-exchange-preserved c =
     every_rest (there c.args.parts) _ _ _ c.in-Some.ensures.0 here ∙ c.loop-exchange.invariant
 
 pub returns : goal.returns
-unfolding every
 returns c = let none = c.in_default.ensures in let e = c.loop-exchange.invariant in rw none at e

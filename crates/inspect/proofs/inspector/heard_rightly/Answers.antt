@@ -1,6 +1,6 @@
 use Rattle.std.proofs.Common.{sym, ◌∙◌}
+use Rattle.std.specs.List.{list_all}
 use Rattle.std.proofs.lemmas.Bool.{eq-eqb, ne_eqb}
-use Rattle.subset.specs.Parts.{every}
 use Rattle.inspect.specs.Inspector.{rightly}
 use Rattle.inspect.proofs.Inspected.{right_is}
 use Rattle.judges.proofs.Rows.{every_first, every_rest}
@@ -24,5 +24,4 @@ loop-exchange-preserved g c =
     )
 
 pub returns : goal.returns
-unfolding every
 returns g c = record { same = c.loop-exchange.invariant.0; value = (let none = c.in_default.ensures in let e = c.loop-exchange.invariant.1 in rw none at e) }

@@ -1,5 +1,5 @@
 use Rattle.std.proofs.Common.{◌≡◌, length}
-use Rattle.subset.specs.Parts.{every}
+use Rattle.std.specs.List.{list_all}
 use Rattle.inspect.specs.Inspector.{rightly}
 use Rattle.judges.specs.Spelled.{lists_of}
 use Rattle.inspect.proofs.inspector.heard_rightly.Given as goal
@@ -7,7 +7,7 @@ use Rattle.inspect.proofs.inspector.heard_rightly.Given as goal
 abbrev pub invariant-loop-exchange : goal.invariant-loop-exchange
 invariant-loop-exchange g l =
     (g.J.Judge.meaning l.judge ≡ g.J.Judge.meaning l.initial.judge)
-    × (every (rightly (g.J.Judge.meaning l.initial.judge)) (lists_of l.rest) ≡ every (rightly (g.J.Judge.meaning l.initial.judge)) (lists_of l.exchanges))
+    × (list_all (rightly (g.J.Judge.meaning l.initial.judge)) (lists_of l.rest) ≡ list_all (rightly (g.J.Judge.meaning l.initial.judge)) (lists_of l.exchanges))
 
 abbrev pub decreases-loop-exchange : goal.decreases-loop-exchange
 decreases-loop-exchange g l = length l.rest
