@@ -1,6 +1,6 @@
 -- Every question lies strictly within what is held, so what is held lies within all that failed.
 use Rattle.std.proofs.Common.{◌≡◌, ℕ, zero, suc, ◌<◌, ◌≤◌, Bool, true, false, ltb, ◌⊎◌, List, [], ◌∷◌, length, get_or, take, sym, refl, ap, ◌∙◌, subst, inl, inr, le_of_suc-le-suc, not-suc-le-zero, arith}
-use Rattle.std.specs.List.{filter, list_any}
+use Rattle.std.specs.List.{list_any}
 use Rattle.std.proofs.lemmas.Bool.{and_from, ltb-true, lt-ltb, le-ltb, eq-eqb, both_ways, or_cases, or_left, or_right}
 use Rattle.subset.specs.Parts.{same, some_of, has}
 use Rattle.subset.proofs.Lists.{Row, row_from, row_get_or, those_in, those_out, has_append, has_get_or, has_those, has_every, every_has}

@@ -135,7 +135,7 @@ module _ (n : ℕ) (f : Judge) where
         edge = λ l q. absurd (omega arith);
         surely =
             rw (above_cons r ks h)
-            (every_cons _ x _ (not_from_false _ one)
+            (every_cons (λ k. not (fails f (without k ks))) x (take p.at.sure (above (suc r) ks)) (not_from_false _ one)
             (subst (λ (k : ℕ). list_all (λ k. not (fails f (without k ks))) (take p.at.sure (above k ks)) ≡ true) i t.surely));
         needs = λ m y g.
             elim (above_has r ks y h g) [ inl a ↦ rw a one | inr a ↦ t.needs m y (subst (λ (k : ℕ). has (above k ks) y ≡ true) (sym i) a) ];

@@ -1,6 +1,5 @@
 -- What one pass has asked: each part that it found is needed after all that stood before it, and those that are sure were shown so.
 use Rattle.std.proofs.Common.{◌≡◌, ℕ, suc, ◌<◌, ◌≤◌, Bool, true, false, ltb, List, [], ◌∷◌, ◌++◌, length, get_or, take, sym, refl, ap, ◌∙◌, subst, inl, inr, arith, get_or-take, take-take}
-use Rattle.std.specs.List.{filter}
 use Rattle.std.proofs.lemmas.Bool.{lt-ltb, le-ltb}
 use Rattle.subset.specs.Parts.{some_of, without, has}
 use Rattle.subset.proofs.Lists.{Row, row_from, those_in, those_out, has_cons}
@@ -80,7 +79,10 @@ module _ (n : ℕ) (f : Judge) (A : List ℕ) (sm : some_of n A ≡ true) where
             | inl a ↦ rw a one
             | inr a ↦ t.trusted y (subst (λ (k : ℕ). has (take p.at.sure (above k ks)) y ≡ true) (sym i) a)
           ];
-          shown = λ y g. rw ab (elim (has_cons x N y (rw ab at g)) [ inl a ↦ rw a new | inr a ↦ old y a ]);
+          shown = λ y g. subst (λ (l : List ℕ). Stood f qs (before y A ++ beyond y l)) (sym ab) (elim (has_cons x N y (rw ab at g)) [
+            | inl a ↦ subst (λ (z : ℕ). Stood f qs (before z A ++ beyond z (x ∷ N))) (sym a) new
+            | inr a ↦ old y a
+          ]);
         },
       )
 
@@ -98,9 +100,9 @@ module _ (n : ℕ) (f : Judge) (A : List ℕ) (sm : some_of n A ≡ true) where
           record {
             short = omega (arith, t.short);
             fore = take_keep c r ks (omega arith) l ∙ sym (take-take c r ks (omega arith)) ∙ ap (take c) t.fore ∙ take-take c r A (omega arith);
-            mark = λ k q. rw (keep_keep k c r ks (omega arith) (omega arith) l) (stood_more f Q qs _ (t.mark k q));
+            mark = λ k q. subst (λ (q₁ : List ℕ). Stood f (Q ∷ qs) q₁) (sym (keep_keep k c r ks (omega arith) (omega arith) l)) (stood_more f Q qs (question k p) (t.mark k q));
             trusted = λ x g. absurd (none_has x g);
-            shown = λ y g. rw ab (stood_more f Q qs _ (t.shown y (rw ab at g)));
+            shown = λ y g. subst (λ (q₁ : List ℕ). Stood f (Q ∷ qs) (before y A ++ beyond y q₁)) (sym ab) (stood_more f Q qs _ (t.shown y (rw ab at g)));
           },
         )
 
@@ -110,7 +112,7 @@ module _ (n : ℕ) (f : Judge) (A : List ℕ) (sm : some_of n A ≡ true) where
       record {
         short = t.short;
         fore = t.fore;
-        mark = λ l q. let q₁ : l ≡ c = omega arith in rw q₁ (asked_new Q qs, e);
+        mark = λ l q. let q₁ : c ≡ l = omega arith in subst (λ (k : ℕ). Stood f (Q ∷ qs) (question k p)) q₁ (asked_new Q qs, e);
         trusted = λ x g. stood_more f Q qs _ (t.trusted x g);
         shown = λ y g. stood_more f Q qs _ (t.shown y g);
       },

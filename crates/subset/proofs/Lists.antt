@@ -1,6 +1,6 @@
 -- Laws of every, any, those and rising over lists of parts.
 use Rattle.std.proofs.Common.{◌≡◌, ℕ, zero, suc, ◌<◌, ◌≤◌, Bool, true, false, cond, not, eqb, ◌⊎◌, List, [], ◌∷◌, ◌++◌, length, get_or, take, drop, sym, refl, ap, inl, inr, le_of_suc-le-suc, not-suc-le-zero, arith, length-append, take-append-drop}
-use Rattle.std.specs.List.{filter, list_all, list_any}
+use Rattle.std.specs.List.{filter, list_all}
 use Rattle.std.proofs.lemmas.Bool.{and_parts, and_from, ltb-true, lt-ltb, eqb-true, eqb-false, eq-eqb, ne_eqb, both_ways, cases_Bool, or_cases, or_left, or_right, not-true, not_from_true, not_from_false}
 use Rattle.subset.specs.Parts.{rising, some_of, without, has, within, all_parts}
 

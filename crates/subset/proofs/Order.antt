@@ -1,6 +1,5 @@
 -- Subsets are known by their members.
 use Rattle.std.proofs.Common.{◌≡◌, ℕ, suc, ◌≤◌, Bool, true, false, ltb, List, [], ◌∷◌, sym, refl, ◌∙◌, subst, ap₂, inl, inr, arith}
-use Rattle.std.specs.List.{list_any}
 use Rattle.std.proofs.lemmas.Bool.{and_parts, and_from, eqb-true, eq-eqb, ltb-true, both_ways}
 use Rattle.subset.specs.Parts.{same, some_of, has}
 use Rattle.subset.proofs.Lists.{Row, row_from, has_cons, has_head, has_tail, has_every}

@@ -1,6 +1,5 @@
 -- Rows of words, their bits and their members.
 use Rattle.std.proofs.Common.{◌≡◌, ℕ, zero, suc, ◌+◌, ◌-◌, ◌*◌, ◌/◌, ◌%◌, ◌^◌, ◌<◌, ◌≤◌, true, false, not, ◌&&◌, ◌||◌, eqb, ltb, ◌⊎◌, List, [], ◌∷◌, length, get_or, set, replicate, sym, refl, ap, ◌∙◌, ap₂, inl, inr, arith, length-set, get_or-set_other, get_or-set_same}
-use Rattle.std.specs.List.{list_all}
 use mathlib.Core.Bool.{and-true, and-false, or_comm}
 use lib.Bits.{bit_and, bit_or, or_lt, and_le_l}
 use lib.ListN.{length-replicate}

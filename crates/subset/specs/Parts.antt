@@ -1,5 +1,5 @@
 -- Parts are the numbers 0 to n - 1, and a subset of them is a rising list. Assumes nothing: these are definitions.
-use Rattle.std.specs.Prelude.{ℕ, zero, suc, Bool, true, false, cond, not, ◌&&◌, ◌||◌, ltb, List, [], ◌∷◌, ◌++◌, ◌==◌, nat_eq, nat_lt}
+use Rattle.std.specs.Prelude.{ℕ, zero, suc, Bool, true, false, not, ◌&&◌, ltb, List, [], ◌∷◌, ◌++◌, ◌==◌, nat_eq, nat_lt}
 use Rattle.std.specs.List.{filter, list_all, list_any}
 
 unfoldable pub same : List ℕ → List ℕ → Bool

@@ -3,4 +3,4 @@ use Rattle.bisect.proofs.Passes.{any_pass, one_pass}
 use Rattle.bisect.proofs.pass_stands.Goals as goal
 
 pub returns : goal.returns
-returns c = record { list_any = any_pass; counted = one_pass; nested = nested }
+returns c = record { any = any_pass; counted = one_pass; nested = nested }

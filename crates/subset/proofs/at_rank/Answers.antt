@@ -1,5 +1,4 @@
 use Rattle.std.proofs.Common.{◌+◌, ◌*◌, length, refl, ap, arith}
-use Rattle.std.specs.List.{filter}
 use Rattle.subset.specs.Parts.{all_parts}
 use Rattle.subset.specs.Row.{bit}
 use Rattle.subset.proofs.Blocks.{told_word, length_upto_le, upto_all}

@@ -1,5 +1,4 @@
 use Rattle.std.proofs.Common.{◌≡◌, ℕ, ◌+◌, ◌-◌, ◌*◌, [], ◌∷◌, length, get_or, refl, ap, ◌∙◌, ap₂, arith, w64, Fits, rules}
-use Rattle.std.specs.List.{filter}
 use Rattle.subset.specs.Parts.{all_parts}
 use Rattle.subset.specs.Row.{bit, cut_out, members}
 use Rattle.subset.proofs.Blocks.{told_word, length_upto_le}

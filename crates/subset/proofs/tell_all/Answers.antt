@@ -1,5 +1,4 @@
 use Rattle.std.proofs.Common.{◌≡◌, ℕ, ◌+◌, ◌*◌, List, [], ◌∷◌, ◌++◌, map, length, get_or, drop, sym, refl, ap, ◌∙◌, ap₂, arith}
-use Rattle.std.specs.List.{filter}
 use lib.ListN.{length-map}
 use Rattle.subset.specs.Parts.{all_parts}
 use Rattle.subset.specs.Row.{bit, members}
