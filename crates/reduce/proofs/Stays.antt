@@ -95,6 +95,6 @@ module _ (n : ℕ) (f : Judge) (k : ℕ) where
         small = t.small;
         some = t.some;
         bad = t.bad;
-        tried = rw (take-suc ks i 0 h) (every_append _ (take i ks) (get_or ks i 0 ∷ []) t.tried (every_cons _ _ _ (not_from_false _ e) (refl)));
+        tried = rw (take-suc ks i 0 h) (every_append _ (take i ks) (get_or ks i 0 ∷ []) t.tried (every_cons (λ k. not (fails f (without k ks))) (get_or ks i 0) [] (not_from_false _ e) refl));
         needs = t.needs;
       }) (omega arith)

@@ -1,5 +1,5 @@
 -- What the machine has asked, whatever its cuts are: what it holds lies within all that failed and was asked of, and each part that it tried was shown needed.
-use Rattle.std.proofs.Common.{◌≡◌, ℕ, suc, ◌<◌, ◌≤◌, Bool, true, false, ltb, List, [], ◌∷◌, length, get_or, take, refl, ap, ◌∙◌, inl, inr, arith, take_all, take-suc}
+use Rattle.std.proofs.Common.{◌≡◌, ℕ, suc, ◌<◌, ◌≤◌, Bool, true, false, ltb, List, [], ◌∷◌, length, get_or, take, sym, refl, ap, subst, ◌∙◌, inl, inr, arith, take_all, take-suc}
 use Rattle.std.proofs.lemmas.Bool.{ltb-false, eqb-false, cond_both}
 use Rattle.subset.specs.Parts.{some_of, without, has}
 use Rattle.subset.proofs.Lists.{has_append, has_cons, has_get_or, has_without, every_has, without_some}
@@ -71,5 +71,5 @@ module _ (n : ℕ) (f : Judge) (A : List ℕ) (qs : List (List ℕ)) (k : ℕ) (
       seen_trial n f A (Q ∷ qs) (suc i) ks (came_stands f A qs ks Q t (less_within i ks l) e)
       (λ y h. elim (has_append (take i ks) (x ∷ []) y (rw (take-suc ks i 0 l) at h)) [
         | inl a ↦ stood_more f Q qs _ (u y a)
-        | inr a ↦ elim (has_cons x [] y a) [ inl q ↦ rw q (asked_new Q qs, e) | inr q ↦ absurd (none_has y q) ]
+        | inr a ↦ elim (has_cons x [] y a) [ inl q ↦ subst (λ (z : ℕ). Stood f (Q ∷ qs) (without z ks)) (sym q) (asked_new Q qs, e) | inr q ↦ absurd (none_has y q) ]
       ])
