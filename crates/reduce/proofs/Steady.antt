@@ -1,6 +1,5 @@
 -- The memory keeps its length, and its numbers stay within 64 bits.
 use Rattle.std.proofs.Common.{◌≡◌, ℕ, suc, ◌≤◌, true, eqb, ltb, List, length, get_or, sym, refl, ◌∙◌, arith}
-use Rattle.std.specs.List.{list_all}
 use Rattle.std.proofs.lemmas.Bool.{and_from, eqb-true, lt-ltb, cond_both}
 use Rattle.subset.specs.Laws.{WordsSmall, all_small}
 use Rattle.subset.proofs.Stands.{words_small}

@@ -1,5 +1,4 @@
 use Rattle.std.proofs.Common.{refl}
-use Rattle.std.specs.List.{filter, list_all, list_any}
 use Rattle.subset.specs.Parts.{same, all_parts, rising}
 use Rattle.subset.proofs.Lists.{every_at}
 use Rattle.bisect.specs.Engine.{acted}
