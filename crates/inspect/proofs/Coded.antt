@@ -1,6 +1,5 @@
 -- The subsets of a few parts, by their numbers.
 use Rattle.std.proofs.Common.{◌≡◌, ℕ, zero, suc, ◌+◌, ◌*◌, ◌/◌, ◌%◌, ◌^◌, ◌<◌, ◌≤◌, Bool, true, false, cond, ◌&&◌, ltb, ◌⊎◌, List, [], ◌∷◌, get_or, Decides, sym, refl, ap, ◌∙◌, subst, inl, inr, add-one, arith, pow_pos, pow_mono}
-use Rattle.std.specs.List.{list_all}
 use Rattle.std.proofs.lemmas.Bool.{and_parts, and_from, both_ways, cases_lt, ltb-true, lt-ltb}
 use Rattle.subset.specs.Parts.{all_parts, some_of, has, within}
 use Rattle.subset.specs.Row.{digit, bit, number, word_by, words_by, words_of}

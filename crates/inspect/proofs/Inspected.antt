@@ -52,7 +52,7 @@ full_has b n [] x r h g l m = absurd (omega arith)
 full_has b n (k ∷ ks) x r h g l m =
     let e : k ≡ b = omega (arith, row_length (suc k) n ks r.1 r.2) in
     elim (cases_eq x k) [
-      | inl q ↦ rw q (has_head k ks)
+      | inl q ↦ subst (λ (y : ℕ). has (k ∷ ks) y ≡ true) (sym q) (has_head k ks)
       | inr q ↦ has_tail k ks x (full_has (suc k) n ks x r.2 r.1 (omega arith) (omega arith) m)
     ]
 

@@ -1,5 +1,4 @@
 use Rattle.std.proofs.Common.{sym, ap, ◌∙◌}
-use Rattle.std.specs.List.{list_all}
 use Rattle.subset.specs.Parts.{some_of}
 use Rattle.inspect.specs.Inspector.{there}
 use Rattle.judges.proofs.Rows.{every_first, every_rest}
