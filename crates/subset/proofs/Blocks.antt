@@ -1,10 +1,12 @@
 -- Whole words at a time: counted, filled, joined.
-use Rattle.std.proofs.Common.{◌≡◌, ℕ, zero, suc, ◌+◌, ◌-◌, ◌*◌, ◌/◌, ◌%◌, ◌^◌, ◌<◌, ◌≤◌, min, Bool, true, false, cond, not, ◌&&◌, ◌||◌, eqb, ltb, ◌⊎◌, List, [], ◌∷◌, ◌++◌, map, length, get_or, set, sym, refl, ap, ◌∙◌, ap₂, inl, inr, append_assoc, append-nil, arith, length-append, get_or-set_other, get_or-set_same, pow_pos, pow_mono}
-use Rattle.std.specs.List.{filter}
+use Rattle.std.proofs.Common.{◌≡◌, ℕ, zero, suc, ◌+◌, ◌-◌, ◌*◌, ◌/◌, ◌%◌, ◌^◌, ◌<◌, ◌≤◌, min, Bool, true, false, cond, not, ◌&&◌, ◌||◌, eqb, ltb, ◌⊎◌, List, [], ◌∷◌, ◌++◌, map, length, take, get_or, set, sym, refl, ap, ◌∙◌, ap₂, inl, inr, append_assoc, append-nil, arith, length-append, get_or-set_other, get_or-set_same, pow_pos, pow_mono}
+use Rattle.std.specs.List.{filter, sum_by}
 use lib.Bits.{bit_or, or_lt}
 use lib.Count.{ones, ones_in, ones_step}
 use lib.ListN.{length-map}
-use Rattle.std.proofs.lemmas.List.{get_or_past}
+use Rattle.std.proofs.lemmas.List.{get_or_past, take_all, map-append}
+use Rattle.std.proofs.lemmas.List.Elements.{filter-append}
+use Rattle.std.proofs.lemmas.List.Sums.{sum_by_more}
 use Rattle.std.proofs.lemmas.Bool.{lt-ltb, le-ltb, cases_eq, cases_lt}
 use Rattle.subset.specs.Parts.{all_parts, has}
 use Rattle.subset.specs.Row.{digit, bit, members, joined}
@@ -16,25 +18,12 @@ use Rattle.subset.proofs.Digits.{digit_zero, digit_suc, digit_none, digit_small,
 use Rattle.subset.proofs.Words.{has_members, holds}
 
 -- ---- the parts below a + b: those below a, and then as many of the next b
-those_append : (f : ℕ → Bool) (xs ys : List ℕ) → filter f (xs ++ ys) ≡ filter f xs ++ filter f ys
-those_append f [] ys = refl
-those_append f (x ∷ xs) ys = go (f x) (those_append f xs ys)
-  where
-    go : (t : Bool) → filter f (xs ++ ys) ≡ filter f xs ++ filter f ys
-        → cond t (x ∷ filter f (xs ++ ys)) (filter f (xs ++ ys)) ≡ cond t (x ∷ filter f xs) (filter f xs) ++ filter f ys
-    go true e = ap (λ r. x ∷ r) e
-    go false e = e
-
 abbrev one_if : Bool → ℕ → List ℕ
 one_if b n = cond b (n ∷ []) []
 
 upto_suc : (f : ℕ → Bool) (n : ℕ) → upto f (suc n) ≡ upto f n ++ one_if (f n) n
 unfolding all_parts
-upto_suc f n = those_append f (all_parts n) (n ∷ [])
-
-map_append : (f : ℕ → ℕ) (xs ys : List ℕ) → map f (xs ++ ys) ≡ map f xs ++ map f ys
-map_append f [] ys = refl
-map_append f (x ∷ xs) ys = ap (λ r. f x ∷ r) (map_append f xs ys)
+upto_suc f n = filter-append f (all_parts n) (n ∷ [])
 
 map_one : (f : ℕ → ℕ) (b : Bool) (n : ℕ) → map f (one_if b n) ≡ one_if b (f n)
 map_one f true n = refl
@@ -48,7 +37,7 @@ upto_add f g a (suc b) h =
     ∙ ap₂ (λ xs t. xs ++ one_if t (a + b)) (upto_add f g a b (λ c l. h c (omega arith))) (h b (omega arith))
     ∙ append_assoc (upto f a) (map (λ c. a + c) (upto g b)) (one_if (g b) (a + b))
     ∙ ap (λ xs. upto f a ++ xs)
-    (ap (λ xs. map (λ c. a + c) (upto g b) ++ xs) (sym (map_one (λ c. a + c) (g b) b)) ∙ sym (map_append (λ c. a + c) (upto g b) (one_if (g b) b))
+    (ap (λ xs. map (λ c. a + c) (upto g b) ++ xs) (sym (map_one (λ c. a + c) (g b) b)) ∙ sym (map-append (λ c. a + c) (upto g b) (one_if (g b) b))
     ∙ ap (map (λ c. a + c)) (sym (upto_suc g b)))
 
 -- ---- one word is a row of its own
@@ -81,6 +70,19 @@ told_word ws i =
 pub upto_all : (ws : List ℕ) (i : ℕ) → i ≡ length ws → upto (bit ws) (64 * i) ≡ members ws
 unfolding members
 upto_all ws i e = ap (λ k. upto (bit ws) (64 * k)) e
+
+counted_to : (ws : List ℕ) (i : ℕ) → i ≤ length ws → sum_by (λ w. length (members (w ∷ []))) (take i ws) ≡ length (upto (bit ws) (64 * i))
+unfolding all_parts
+counted_to ws zero h = refl
+counted_to ws (suc i) h =
+    ap (λ k. sum_by (λ w. length (members (w ∷ []))) (take k ws)) (let z : suc i ≡ i + 1 = omega arith in z)
+    ∙ sum_by_more (λ w. length (members (w ∷ []))) ws i 0 (omega arith) ∙ ap (λ k. k + length (members (get_or ws i 0 ∷ []))) (counted_to ws i (omega arith))
+    ∙ sym (told_word ws i) ∙ ap (λ k. length (upto (bit ws) (64 * k))) (let z : i + 1 ≡ suc i = omega arith in z)
+
+pub counted_words : (ws : List ℕ) → sum_by (λ w. length (members (w ∷ []))) ws ≡ length (members ws)
+counted_words ws =
+    ap (sum_by (λ w. length (members (w ∷ [])))) (sym (take_all (length ws) ws (omega arith))) ∙ counted_to ws (length ws) (omega arith)
+    ∙ ap length (upto_all ws (length ws) refl)
 
 pub length_upto_le : (f : ℕ → Bool) (n : ℕ) → length (upto f n) ≤ n
 length_upto_le f n = omega (arith, length_those f (all_parts n), length_all n)

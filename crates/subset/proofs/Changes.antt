@@ -4,6 +4,7 @@ use Rattle.std.specs.List.{filter}
 use mathlib.Core.Bool.{and-true, and-false}
 use lib.Dec.{leb-suc-suc}
 use Rattle.std.proofs.lemmas.Bool.{ltb-true, lt-ltb, le-ltb, le-leb, lt-leb, eq-eqb, ne_eqb, cases_Bool, cases_order, both_ways, and_parts, and_from}
+use Rattle.std.proofs.lemmas.List.Folds.{list_any-append}
 use Rattle.subset.specs.Parts.{all_parts, some_of, without, has}
 use Rattle.subset.specs.Row.{with_part, cut_out, joined, rank}
 use Rattle.subset.proofs.Lists.{Row, row_lower, row_from, row_to, row_those, row_keep, row_all, row_wider, has_those, those_has, those_in, those_out}
@@ -13,14 +14,6 @@ pub bool_ext : (a b : Bool) → (a ≡ true → b ≡ true) → (b ≡ true → 
 bool_ext true b f g = sym (f refl)
 bool_ext false true f g = g refl
 bool_ext false false f g = refl
-
-pub has_append : (xs ys : List ℕ) (q : ℕ) → has (xs ++ ys) q ≡ (has xs q || has ys q)
-has_append [] ys q = refl
-has_append (x ∷ xs) ys q = go (eqb q x) (has_append xs ys q)
-  where
-    go : (t : Bool) → has (xs ++ ys) q ≡ (has xs q || has ys q) → (t || has (xs ++ ys) q) ≡ ((t || has xs q) || has ys q)
-    go true e = refl
-    go false e = e
 
 pub has_cons : (x : ℕ) (xs : List ℕ) (q : ℕ) → has (x ∷ xs) q ≡ (eqb q x || has xs q)
 has_cons x xs q = refl
@@ -37,7 +30,7 @@ pub has_all : (n q : ℕ) → has (all_parts n) q ≡ ltb q n
 unfolding all_parts
 has_all zero q = has_none q ∙ sym (le-ltb q 0 (omega arith))
 has_all (suc n) q =
-    has_append (all_parts n) (n ∷ []) q ∙ ap₂ ◌||◌ (has_all n q) (has_cons n [] q ∙ ap (λ b. eqb q n || b) (has_none q)) ∙ go (cases_order q n)
+    list_any-append (eqb q) (all_parts n) (n ∷ []) ∙ ap₂ ◌||◌ (has_all n q) (has_cons n [] q ∙ ap (λ b. eqb q n || b) (has_none q)) ∙ go (cases_order q n)
   where
     go : (q ≡ n) ⊎ ((q < n) ⊎ (n < q)) → (ltb q n || (eqb q n || false)) ≡ ltb q (suc n)
     go (inl e) = rw (le-ltb q n (omega arith), eq-eqb q n e, lt-ltb q (suc n) (omega arith))
@@ -59,7 +52,7 @@ has_without p q ks = has_filtered (λ j. not (eqb j p)) ks q
 
 pub has_with : (p q : ℕ) (ks : List ℕ) → has (with_part p ks) q ≡ (eqb q p || has ks q)
 has_with p q ks =
-    has_append (filter (λ j. ltb j p) ks) (p ∷ filter (λ j. ltb p j) ks) q
+    list_any-append (eqb q) (filter (λ j. ltb j p) ks) (p ∷ filter (λ j. ltb p j) ks)
     ∙ ap₂ ◌||◌ (has_filtered (λ j. ltb j p) ks q) (has_cons p (filter (λ j. ltb p j) ks) q ∙ ap (λ b. eqb q p || b) (has_filtered (λ j. ltb p j) ks q))
     ∙ go (has ks q) (cases_order q p)
   where
@@ -112,7 +105,7 @@ has_drop b n (suc k) q (x ∷ ks) r =
 
 pub has_cut : (n a b q : ℕ) (ks : List ℕ) → some_of n ks ≡ true → has (cut_out a b ks) q ≡ (has ks q && (ltb (rank ks q) a || leb b (rank ks q)))
 has_cut n a b q ks s =
-    has_append (take a ks) (drop b ks) q ∙ ap₂ ◌||◌ (has_take 0 n a q ks (row_from n ks s)) (has_drop 0 n b q ks (row_from n ks s)) ∙ go (has ks q)
+    list_any-append (eqb q) (take a ks) (drop b ks) ∙ ap₂ ◌||◌ (has_take 0 n a q ks (row_from n ks s)) (has_drop 0 n b q ks (row_from n ks s)) ∙ go (has ks q)
   where
     go : (h : Bool) → ((h && ltb (rank ks q) a) || (h && leb b (rank ks q))) ≡ (h && (ltb (rank ks q) a || leb b (rank ks q)))
     go true = refl

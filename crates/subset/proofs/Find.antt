@@ -1,45 +1,47 @@
 -- The first member of a kind, found word by word.
-use Rattle.std.proofs.Common.{◌≡◌, ℕ, suc, ◌+◌, ◌-◌, ◌*◌, ◌^◌, ◌<◌, ◌≤◌, min, Bool, true, false, not, ◌&&◌, eqb, ltb, leb, ◌⊎◌, List, [], ◌∷◌, ◌++◌, map, length, get_or, drop, sym, refl, ap, ◌∙◌, ap₂, inl, inr, append_assoc, arith, length-drop}
-use Rattle.std.specs.List.{filter}
-use lib.Bits.{bit_and}
+use Rattle.std.proofs.Common.{Some, None, Ok, ◌≡◌, ℕ, suc, ◌+◌, ◌-◌, ◌*◌, ◌^◌, ◌<◌, ◌≤◌, min, ◌/◌, ◌%◌, zero, Bool, true, false, not, ◌&&◌, eqb, ltb, leb, ◌⊎◌, List, [], ◌∷◌, ◌++◌, map, length, get_or, replicate, drop, sym, refl, ap, ◌∙◌, ap₂, inl, inr, append_assoc, arith}
+use Rattle.std.specs.List.{filter, list_all, enumerate_from}
+use lib.Bits.{bit_and, and_le_l}
 use lib.Count.{count_trailing_zeros}
 use lib.ListN.{length-map}
 use lib.Seq.{drop-append-add, drop-append-le}
 use borrow.Author.Numbers.{trailing_lt}
-use Rattle.std.proofs.lemmas.List.{drop_all, drop-map}
-use Rattle.std.proofs.lemmas.Bool.{lt-ltb, le-ltb, le-leb, lt-leb, ne_eqb, cases_lt, cases_eq, both_ways, and_parts, not-true, not-false}
+use Rattle.std.proofs.lemmas.List.{drop_all, drop-map, nil_from_length}
+use Rattle.std.proofs.lemmas.List.Sums.{list_all-from_AllPass}
+use Rattle.std.proofs.lemmas.List.Elements.{All-replicate}
+use Rattle.std.proofs.lemmas.List.FromFn.{length-enumerate_from, get_or-enumerate_from}
+use Rattle.std.proofs.lemmas.Bool.{lt-ltb, le-ltb, le-leb, lt-leb, eq-eqb, eqb-true, cases_lt, cases_eq, both_ways, and_parts, not-true, not-false}
 use Rattle.subset.specs.Parts.{some_of, within, has}
-use Rattle.subset.specs.Row.{digit, bit, members}
+use Rattle.subset.specs.Row.{digit, bit, members, words_of}
 use Rattle.subset.specs.Says.{found}
-use Rattle.subset.specs.declared.Found.TheVariants.{Part, Nothing}
-use Rattle.subset.proofs.Lists.{Row, row_from, has_head, has_every, every_has}
+use Rattle.subset.proofs.Lists.{Row, row_from, row_to, has_head, has_every, every_has, every_at, every_from}
 use Rattle.subset.proofs.Lists as lists
-use Rattle.subset.proofs.Order.{row_has, none_has, must_false}
-use Rattle.subset.proofs.Changes.{upto, has_filtered, some_of_those}
+use Rattle.subset.proofs.Order.{row_has, none_has}
+use Rattle.subset.proofs.Changes.{bool_ext, upto, has_filtered, some_of_those}
 use Rattle.subset.proofs.Digits.{digit_none, digit_and, digit_turned}
-use Rattle.subset.proofs.Words.{has_members, some_of_members, bit_past}
+use Rattle.subset.proofs.Words.{Small, has_members, some_of_members, bit_past, words_none, members_words, words_members}
 use Rattle.subset.proofs.Blocks.{bit_one, bit_block, digit_ones, upto_word, upto_more}
-use Rattle.subset.proofs.Lowest.{Lowest, lowest, lowest_first, none_of_zero}
+use Rattle.subset.proofs.Lowest.{Lowest, lowest, lowest_first, some_left}
 
 -- ---- the head of a subset
-pub found_first : (n : ℕ) (ks : List ℕ) (p : ℕ) → some_of n ks ≡ true → has ks p ≡ true → ((q : ℕ) → q < p → has ks q ≡ false) → Part p ≡ found true ks
+pub found_first : (n : ℕ) (ks : List ℕ) (p : ℕ) → some_of n ks ≡ true → has ks p ≡ true → ((q : ℕ) → q < p → has ks q ≡ false) → Ok (Some p) ≡ found true ks
 found_first n [] p s h k = absurd (none_has p h)
 found_first n (x ∷ ks) p s h k =
     let r : Row 0 n (x ∷ ks) = row_from n (x ∷ ks) s in
     let low : p ≤ x = go (cases_lt x p) in
-    ap (λ v. Part v) (elim (lists.has_cons x ks p h) [ inl e ↦ e | inr g ↦ omega (arith, row_has (suc x) n ks p r.2 g) ])
+    ap (λ v. Ok (Some v)) (elim (lists.has_cons x ks p h) [ inl e ↦ e | inr g ↦ omega (arith, row_has (suc x) n ks p r.2 g) ])
   where
     go : (x < p) ⊎ (p ≤ x) → p ≤ x
     go (inl l) = absurd (both_ways _ (k x l) (has_head x ks))
     go (inr l) = l
 
-pub found_none : (ks : List ℕ) → ((q : ℕ) → has ks q ≡ false) → Nothing ≡ found true ks
+pub found_none : (ks : List ℕ) → ((q : ℕ) → has ks q ≡ false) → Ok None ≡ found true ks
 found_none [] h = refl
 found_none (x ∷ ks) h = absurd (both_ways _ (h x) (has_head x ks))
 
 -- ---- the first set bit of one of the words
--- word i has bits at places that pass f, and the places before it have none
-module _ (f : ℕ → Bool) (i w : ℕ) (small : w < 2 ^ 64) (pos : 0 < w) (here : (b : ℕ) → b < 64 → f (64 * i + b) ≡ digit w b) (before : (q : ℕ) → q < 64 * i → f q ≡ false) where
+-- word i has bits at places that pass f; the places before it have none
+module _ (f : ℕ → Bool) (i w : ℕ) (small : w < 2 ^ 64) (pos : 0 < w) (here : (b : ℕ) → b < 64 → f (64 * i + b) ≡ digit w b) where
   abbrev place : ℕ
   place = 64 * i + count_trailing_zeros 64 w
 
@@ -52,8 +54,8 @@ module _ (f : ℕ → Bool) (i w : ℕ) (small : w < 2 ^ 64) (pos : 0 < w) (here
   pub place_on : f place ≡ true
   place_on = here (count_trailing_zeros 64 w) lt ∙ low.on
 
-  pub place_first : (q : ℕ) → q < place → f q ≡ false
-  place_first q l = go (cases_lt q (64 * i))
+  pub place_first : ((q : ℕ) → q < 64 * i → f q ≡ false) → (q : ℕ) → q < place → f q ≡ false
+  place_first before q l = go (cases_lt q (64 * i))
     where
       go : (q < 64 * i) ⊎ (64 * i ≤ q) → f q ≡ false
       go (inl m) = before q m
@@ -93,13 +95,13 @@ has_from : (ws : List ℕ) (part q : ℕ) → has (filter (leb part) (members ws
 has_from ws part q = has_filtered (leb part) (members ws) q ∙ ap (λ b. b && leb part q) (has_members ws q)
 
 pub from_found : (ws : List ℕ) (part p : ℕ) → from_on ws part p ≡ true → ((q : ℕ) → q < p → from_on ws part q ≡ false)
-    → Part p ≡ found true (filter (leb part) (members ws))
+    → Ok (Some p) ≡ found true (filter (leb part) (members ws))
 from_found ws part p on off =
     found_first (64 * length ws) (filter (leb part) (members ws)) p
     (some_of_those (64 * length ws) (leb part) (members ws) (some_of_members ws (length ws) refl))
     (has_from ws part p ∙ on) (λ q l. has_from ws part q ∙ off q l)
 
-pub from_none : (ws : List ℕ) (part : ℕ) → ((q : ℕ) → q < 64 * length ws → from_on ws part q ≡ false) → Nothing ≡ found true (filter (leb part) (members ws))
+pub from_none : (ws : List ℕ) (part : ℕ) → ((q : ℕ) → q < 64 * length ws → from_on ws part q ≡ false) → Ok None ≡ found true (filter (leb part) (members ws))
 from_none ws part off = found_none (filter (leb part) (members ws)) (λ q. has_from ws part q ∙ go q (cases_lt q (64 * length ws)))
   where
     go : (q : ℕ) → (q < 64 * length ws) ⊎ (64 * length ws ≤ q) → from_on ws part q ≡ false
@@ -107,49 +109,45 @@ from_none ws part off = found_none (filter (leb part) (members ws)) (λ q. has_f
     go q (inr l) = ap (λ b. b && leb part q) (bit_past ws q l)
 
 -- ---- at a rank
-pub rank_found : (ws : List ℕ) (i rank before word : ℕ) → i < length ws → before ≡ length (upto (bit ws) (64 * i)) → before ≤ rank
-    → rank < before + length (members (get_or ws i 0 ∷ [])) → word < 2 ^ 64 → members (word ∷ []) ≡ drop (rank - before) (members (get_or ws i 0 ∷ []))
-    → Part (64 * i + count_trailing_zeros 64 word) ≡ found true (drop rank (members ws))
+pub rank_found : (ws : List ℕ) (i rank left word : ℕ) → i < length ws → rank ≡ length (upto (bit ws) (64 * i)) + left
+    → left < length (members (get_or ws i 0 ∷ [])) → word < 2 ^ 64 → members (word ∷ []) ≡ drop left (members (get_or ws i 0 ∷ []))
+    → Ok (Some (64 * i + count_trailing_zeros 64 word)) ≡ found true (drop rank (members ws))
 unfolding members
-rank_found ws i rank before word h e low high small left =
+rank_found ws i rank left word h e high small rest =
     let xs : List ℕ = members (get_or ws i 0 ∷ []) in
     let ys : List ℕ = map (λ b. 64 * i + b) xs in
     let more : (zs : List ℕ) × (upto (bit ws) (64 * length ws) ≡ upto (bit ws) (64 * (i + 1)) ++ zs) =
     upto_more (bit ws) (64 * (i + 1)) (64 * length ws) (omega arith) in
     let fit : length ys ≡ length xs = length-map xs (λ b. 64 * i + b) in
+    let pos : 0 < word = some_left word left xs rest high in
     sym (ap (λ ks. found true (drop rank ks))
     (more.1 ∙ ap (λ us. us ++ more.0) (upto_word ws i) ∙ append_assoc (upto (bit ws) (64 * i)) ys more.0)
-    ∙ ap (λ k. found true (drop k (upto (bit ws) (64 * i) ++ (ys ++ more.0)))) (let z : rank ≡ length (upto (bit ws) (64 * i)) + (rank - before) = omega arith in z)
-    ∙ ap (found true) (drop-append-add (upto (bit ws) (64 * i)) (ys ++ more.0) (rank - before)
-    ∙ drop-append-le (rank - before) ys more.0 (omega arith)
-    ∙ ap (λ us. us ++ more.0) (drop-map (λ b. 64 * i + b) (rank - before) xs ∙ ap (map (λ b. 64 * i + b)) (sym left ∙ lowest_first word pos small))))
-  where
-    pos : 0 < word
-    pos = go (cases_eq word 0)
-      where
-        go : (word ≡ 0) ⊎ (word ≡ 0 → ⊥) → 0 < word
-        go (inl z) =
-            absurd (omega (arith, ap length (none_of_zero word z), ap length left, length-drop (rank - before) (members (get_or ws i 0 ∷ []))))
-        go (inr d) = omega arith
+    ∙ ap (λ k. found true (drop k (upto (bit ws) (64 * i) ++ (ys ++ more.0)))) e
+    ∙ ap (found true) (drop-append-add (upto (bit ws) (64 * i)) (ys ++ more.0) left
+    ∙ drop-append-le left ys more.0 (omega arith)
+    ∙ ap (λ us. us ++ more.0) (drop-map (λ b. 64 * i + b) left xs ∙ ap (map (λ b. 64 * i + b)) (sym rest ∙ lowest_first word pos small))))
 
-pub rank_none : (ws : List ℕ) (rank : ℕ) → length (members ws) ≤ rank → Nothing ≡ found true (drop rank (members ws))
+pub rank_none : (ws : List ℕ) (rank : ℕ) → length (members ws) ≤ rank → Ok None ≡ found true (drop rank (members ws))
 rank_none ws rank h = ap (found true) (sym (drop_all rank (members ws) h))
 
 -- ---- whether there is one at all, and whether all are in another row
-pub some_long : (ks : List ℕ) (x : ℕ) → has ks x ≡ true → eqb (length ks) 0 ≡ false
-some_long [] x h = absurd (none_has x h)
-some_long (k ∷ ks) x h = ne_eqb (suc (length ks)) 0 (omega arith)
+zeros : (ws : List ℕ) → list_all (λ w. eqb w 0) ws ≡ true → ws ≡ replicate (length ws) 0
+zeros [] h = refl
+zeros (w ∷ ws) h = let e = and_parts _ _ h in ap₂ (λ v vs. v ∷ vs) (eqb-true w 0 e.0) (zeros ws e.1)
 
-pub none_long : (ws : List ℕ) → ((q : ℕ) → q < 64 * length ws → bit ws q ≡ false) → eqb (length (members ws)) 0 ≡ true
-none_long ws off = go (members ws) (λ q. has_members ws q ∙ all q (cases_lt q (64 * length ws)))
+pub blank : (ws : List ℕ) → Small ws → list_all (λ w. eqb w 0) ws ≡ eqb (length (members ws)) 0
+blank ws small = bool_ext _ _ there back
   where
-    all : (q : ℕ) → (q < 64 * length ws) ⊎ (64 * length ws ≤ q) → bit ws q ≡ false
-    all q (inl l) = off q l
-    all q (inr l) = bit_past ws q l
+    there : list_all (λ w. eqb w 0) ws ≡ true → eqb (length (members ws)) 0 ≡ true
+    there h =
+        eq-eqb (length (members ws)) 0
+        (ap (λ vs. length (members vs)) (zeros ws h ∙ sym (words_none (length ws))) ∙ ap length (members_words (length ws) [] (row_to 0 (64 * length ws) [] tt)))
 
-    go : (ks : List ℕ) → ((q : ℕ) → has ks q ≡ false) → eqb (length ks) 0 ≡ true
-    go [] h = refl
-    go (k ∷ ks) h = absurd (both_ways _ (h k) (has_head k ks))
+    back : eqb (length (members ws)) 0 ≡ true → list_all (λ w. eqb w 0) ws ≡ true
+    back h =
+        ap (list_all (λ w. eqb w 0))
+        (sym (words_members ws (length ws) refl small) ∙ ap (words_of (length ws)) (nil_from_length (members ws) (eqb-true (length (members ws)) 0 h)) ∙ words_none (length ws))
+        ∙ list_all-from_AllPass (λ w. eqb w 0) (replicate (length ws) 0) (All-replicate (λ w. eqb w 0 ≡ true) (length ws) 0 refl)
 
 -- in one row and not in the other
 abbrev pub out_of : (vs ws : List ℕ) → ℕ → Bool
@@ -161,16 +159,46 @@ out_word vs ws i b small l =
     ∙ sym (digit_and (get_or ws i 0) (18446744073709551615 - get_or vs i 0) b
     ∙ ap (λ t. digit (get_or ws i 0) b && t) (digit_turned 64 (get_or vs i 0) (18446744073709551615 - get_or vs i 0) b (omega arith) l))
 
-pub not_within : (vs ws : List ℕ) (p : ℕ) → out_of vs ws p ≡ true → within (members ws) (members vs) ≡ false
-not_within vs ws p h =
+not_within : (vs ws : List ℕ) (p : ℕ) → out_of vs ws p ≡ true → within (members ws) (members vs) ≡ true → ⊥
+not_within vs ws p h g =
     let w = and_parts (bit ws p) (not (bit vs p)) h in
-    must_false (within (members ws) (members vs)) (λ g.
-    both_ways _ (not-true (bit vs p) w.1) (sym (has_members vs p) ∙ has_every (has (members vs)) (members ws) p g (has_members ws p ∙ w.0)))
+    both_ways _ (not-true (bit vs p) w.1) (sym (has_members vs p) ∙ has_every (has (members vs)) (members ws) p g (has_members ws p ∙ w.0))
 
-pub all_within : (vs ws : List ℕ) → ((q : ℕ) → q < 64 * length ws → out_of vs ws q ≡ false) → within (members ws) (members vs) ≡ true
-all_within vs ws off =
-    every_has (has (members vs)) (members ws) (λ q h. has_members vs q ∙ go q (sym (has_members ws q) ∙ h) (cases_lt q (64 * length ws)))
+-- what is left of word i without the bits of the other row's
+abbrev only : List ℕ → ℕ × ℕ → ℕ
+only vs p = bit_and p.1 (18446744073709551615 - get_or vs p.0 0)
+
+pub within_words : (vs ws : List ℕ) → Small vs → Small ws → list_all (λ p. eqb (only vs p) 0) (enumerate_from 0 ws) ≡ within (members ws) (members vs)
+within_words vs ws sv sw = bool_ext _ _ there back
   where
-    go : (q : ℕ) → bit ws q ≡ true → (q < 64 * length ws) ⊎ (64 * length ws ≤ q) → bit vs q ≡ true
-    go q h (inl l) = not-false (bit vs q) (ap (λ b. b && not (bit vs q)) (sym h) ∙ off q l)
-    go q h (inr l) = absurd (both_ways _ (bit_past ws q l) h)
+    here : (i b : ℕ) → b < 64 → out_of vs ws (64 * i + b) ≡ digit (only vs (i, get_or ws i 0)) b
+    here i b l = out_word vs ws i b (sv i) l
+
+    there : list_all (λ p. eqb (only vs p) 0) (enumerate_from 0 ws) ≡ true → within (members ws) (members vs) ≡ true
+    there h =
+        every_has (has (members vs)) (members ws) (λ q g. has_members vs q ∙ go q (sym (has_members ws q) ∙ g) (cases_lt q (64 * length ws)))
+      where
+        none : (i : ℕ) → i < length ws → only vs (i, get_or ws i 0) ≡ 0
+        none i l =
+            eqb-true (only vs (i, get_or ws i 0)) 0
+            (ap (λ k. eqb (only vs (k, get_or ws i 0)) 0) (let z : i ≡ 0 + i = omega arith in z) ∙ sym (ap (λ p. eqb (only vs p) 0) (get_or-enumerate_from 0 ws i (0, 0) l))
+            ∙ every_at (λ p. eqb (only vs p) 0) (enumerate_from 0 ws) i (0, 0) h (omega (arith, length-enumerate_from 0 ws)))
+
+        go : (q : ℕ) → bit ws q ≡ true → (q < 64 * length ws) ⊎ (64 * length ws ≤ q) → bit vs q ≡ true
+        go q g (inl l) =
+            not-false (bit vs q)
+            (ap (λ b. b && not (bit vs q)) (sym g) ∙ ap (out_of vs ws) (let z : q ≡ 64 * (q / 64) + q % 64 = omega arith in z)
+            ∙ here (q / 64) (q % 64) (omega arith) ∙ ap (λ w. digit w (q % 64)) (none (q / 64) (omega arith)) ∙ digit_none (q % 64))
+        go q g (inr l) = absurd (both_ways _ (bit_past ws q l) g)
+
+    back : within (members ws) (members vs) ≡ true → list_all (λ p. eqb (only vs p) 0) (enumerate_from 0 ws) ≡ true
+    back g =
+        every_from (λ p. eqb (only vs p) 0) (enumerate_from 0 ws) (0, 0) (λ i l.
+        ap (λ p. eqb (only vs p) 0) (get_or-enumerate_from 0 ws i (0, 0) (omega (arith, length-enumerate_from 0 ws)))
+        ∙ ap (λ k. eqb (only vs (k, get_or ws i 0)) 0) (let z : 0 + i ≡ i = omega arith in z) ∙ eq-eqb (only vs (i, get_or ws i 0)) 0 (go i (cases_eq (only vs (i, get_or ws i 0)) 0)))
+      where
+        go : (i : ℕ) → (only vs (i, get_or ws i 0) ≡ 0) ⊎ (only vs (i, get_or ws i 0) ≡ 0 → ⊥) → only vs (i, get_or ws i 0) ≡ 0
+        go i (inl e) = e
+        go i (inr d) =
+            let small : only vs (i, get_or ws i 0) < 2 ^ 64 = omega (arith, and_le_l (get_or ws i 0) (18446744073709551615 - get_or vs i 0), sw i) in
+            absurd (not_within vs ws _ (place_on (out_of vs ws) i (only vs (i, get_or ws i 0)) small (omega arith) (here i)) g)

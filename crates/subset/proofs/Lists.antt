@@ -1,6 +1,8 @@
 -- Laws of every, any, those and rising over lists of parts.
-use Rattle.std.proofs.Common.{◌≡◌, ℕ, zero, suc, ◌<◌, ◌≤◌, Bool, true, false, cond, not, eqb, ◌⊎◌, List, [], ◌∷◌, ◌++◌, length, get_or, take, drop, sym, refl, ap, inl, inr, le_of_suc-le-suc, not-suc-le-zero, arith, length-append, take-append-drop}
+use Rattle.std.proofs.Common.{◌≡◌, ℕ, zero, suc, ◌<◌, ◌≤◌, Bool, true, false, cond, not, eqb, ◌⊎◌, List, [], ◌∷◌, ◌++◌, length, get_or, take, drop, sym, refl, ap, ◌∙◌, inl, inr, le_of_suc-le-suc, not-suc-le-zero, arith, length-append, take-append-drop}
 use Rattle.std.specs.List.{filter, list_all}
+use Rattle.std.proofs.lemmas.List.Folds.{list_all-append, list_any-append}
+use Rattle.std.proofs.lemmas.List.Sums.{length-filter, count_by-le-length}
 use Rattle.std.proofs.lemmas.Bool.{and_parts, and_from, ltb-true, lt-ltb, eqb-true, eqb-false, eq-eqb, ne_eqb, both_ways, cases_Bool, or_cases, or_left, or_right, not-true, not_from_true, not_from_false}
 use Rattle.subset.specs.Parts.{rising, some_of, without, has, within, all_parts}
 
@@ -60,8 +62,7 @@ row_all (suc n) = row_push 0 n (suc n) (all_parts n) (omega arith) (omega arith)
 
 -- every
 pub every_append : {A : Type 0} (p : A → Bool) (xs ys : List A) → list_all p xs ≡ true → list_all p ys ≡ true → list_all p (xs ++ ys) ≡ true
-every_append p [] ys a b = b
-every_append p (x ∷ xs) ys a b = and_from _ _ (and_parts _ _ a).0 (every_append p xs ys (and_parts _ _ a).1 b)
+every_append p xs ys a b = list_all-append p xs ys ∙ and_from _ _ a b
 
 pub every_cons : {A : Type 0} (p : A → Bool) (x : A) (xs : List A) → p x ≡ true → list_all p xs ≡ true → list_all p (x ∷ xs) ≡ true
 every_cons p x xs a b = and_from _ _ a b
@@ -70,6 +71,10 @@ pub every_at : {A : Type 0} (p : A → Bool) (xs : List A) (i : ℕ) (d : A) →
 every_at p [] i d h l = absurd (not-suc-le-zero l)
 every_at p (x ∷ xs) zero d h l = (and_parts _ _ h).0
 every_at p (x ∷ xs) (suc i) d h l = every_at p xs i d (and_parts _ _ h).1 (le_of_suc-le-suc l)
+
+pub every_from : {A : Type 0} (p : A → Bool) (xs : List A) (d : A) → ((i : ℕ) → i < length xs → p (get_or xs i d) ≡ true) → list_all p xs ≡ true
+every_from p [] d h = refl
+every_from p (x ∷ xs) d h = and_from _ _ (h 0 (omega arith)) (every_from p xs d (λ i l. h (suc i) (omega arith)))
 
 -- has
 pub has_those : (p : ℕ → Bool) (ks : List ℕ) (y : ℕ) → has (filter p ks) y ≡ true → (has ks y ≡ true) × (p y ≡ true)
@@ -89,22 +94,13 @@ those_has p (k ∷ ks) y h e = go (those_has p ks y) (p k) refl
     go ih false q = elim (or_cases (eqb y k) (has ks y) h) [ inl a ↦ absurd (both_ways (p k) q (rw (eqb-true y k a) at e)) | inr a ↦ ih a e ]
 
 pub has_append : (xs ys : List ℕ) (y : ℕ) → has (xs ++ ys) y ≡ true → (has xs y ≡ true) ⊎ (has ys y ≡ true)
-has_append [] ys y h = inr h
-has_append (x ∷ xs) ys y h =
-    elim (or_cases (eqb y x) (has (xs ++ ys) y) h) [
-      | inl a ↦ inl (or_left (eqb y x) (has xs y) a)
-      | inr a ↦ elim (has_append xs ys y a) [ inl b ↦ inl (or_right (eqb y x) (has xs y) b) | inr b ↦ inr b ]
-    ]
+has_append xs ys y h = or_cases (has xs y) (has ys y) (sym (list_any-append (eqb y) xs ys) ∙ h)
 
 pub has_left : (xs ys : List ℕ) (y : ℕ) → has xs y ≡ true → has (xs ++ ys) y ≡ true
-has_left [] ys y h = absurd (both_ways _ refl h)
-has_left (x ∷ xs) ys y h =
-    elim (or_cases (eqb y x) (has xs y) h)
-    [ inl a ↦ or_left (eqb y x) (has (xs ++ ys) y) a | inr a ↦ or_right (eqb y x) (has (xs ++ ys) y) (has_left xs ys y a) ]
+has_left xs ys y h = list_any-append (eqb y) xs ys ∙ or_left (has xs y) (has ys y) h
 
 pub has_right : (xs ys : List ℕ) (y : ℕ) → has ys y ≡ true → has (xs ++ ys) y ≡ true
-has_right [] ys y h = h
-has_right (x ∷ xs) ys y h = or_right (eqb y x) (has (xs ++ ys) y) (has_right xs ys y h)
+has_right xs ys y h = list_any-append (eqb y) xs ys ∙ or_right (has xs y) (has ys y) h
 
 pub has_head : (x : ℕ) (xs : List ℕ) → has (x ∷ xs) x ≡ true
 has_head x xs = or_left (eqb x x) (has xs x) (eq-eqb x x refl)
@@ -157,10 +153,7 @@ pub those_out : {A : Type 0} (p : A → Bool) (k : A) (ks : List A) → p k ≡ 
 those_out p k ks e = rw e
 
 pub length_those : (p : ℕ → Bool) (ks : List ℕ) → length (filter p ks) ≤ length ks
-length_those p [] = omega arith
-length_those p (k ∷ ks) =
-    elim (cases_Bool (p k))
-    [ inl e ↦ rw (those_in p k ks e) (omega (arith, length_those p ks)) | inr e ↦ rw (those_out p k ks e) (omega (arith, length_those p ks)) ]
+length_those p ks = omega (arith, length-filter p ks, count_by-le-length p ks)
 
 pub length_without : (x : ℕ) (ks : List ℕ) → has ks x ≡ true → length (without x ks) < length ks
 length_without x [] h = absurd (both_ways _ refl h)

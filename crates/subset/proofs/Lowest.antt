@@ -1,5 +1,5 @@
 -- The lowest set bit of a word, and what is left without it.
-use Rattle.std.proofs.Common.{◌≡◌, ℕ, zero, suc, ◌+◌, ◌-◌, ◌/◌, ◌%◌, ◌^◌, ◌<◌, ◌≤◌, Bool, true, false, not, ◌&&◌, ◌||◌, eqb, ◌⊎◌, List, [], ◌∷◌, ◌++◌, length, take, drop, set, sym, refl, ap, ◌∙◌, subst, ap₂, inl, inr, append_assoc, add-one, arith, take-append-drop, drop-drop, take-suc-set, take_at, drop-set-lt}
+use Rattle.std.proofs.Common.{◌≡◌, ℕ, zero, suc, ◌+◌, ◌-◌, ◌/◌, ◌%◌, ◌^◌, ◌<◌, ◌≤◌, Bool, true, false, not, ◌&&◌, ◌||◌, eqb, ◌⊎◌, List, [], ◌∷◌, ◌++◌, length, take, drop, set, sym, refl, ap, ◌∙◌, subst, ap₂, inl, inr, append_assoc, add-one, arith, take-append-drop, length-drop, drop-drop, take-suc-set, take_at, drop-set-lt}
 use mathlib.Core.Bool.{and-true, and-false}
 use lib.Dec.{eqb-suc-suc, eqb-suc-zero}
 use lib.Bits.{bit_and}
@@ -137,6 +137,17 @@ none_of_zero w e =
     go : (q : ℕ) → (q < 64) ⊎ (64 ≤ q) → bit (w ∷ []) q ≡ false
     go q (inl l) = bit_one w q l ∙ ap (λ v. digit v q) e ∙ digit_none q
     go q (inr l) = bit_past (w ∷ []) q l
+
+-- before all of ks are taken away one is left, and it goes next
+pub some_left : (w k : ℕ) (ks : List ℕ) → members (w ∷ []) ≡ drop k ks → k < length ks → 0 < w
+some_left w k ks e l = go (cases_eq w 0)
+  where
+    go : (w ≡ 0) ⊎ (w ≡ 0 → ⊥) → 0 < w
+    go (inl z) = absurd (omega (arith, ap length (none_of_zero w z), ap length e, length-drop k ks))
+    go (inr d) = omega arith
+
+pub next_left : (w k : ℕ) (ks : List ℕ) → w < 2 ^ 64 → members (w ∷ []) ≡ drop k ks → k < length ks → members (bit_and w (w - 1) ∷ []) ≡ drop (k + 1) ks
+next_left w k ks small e l = ap (drop 1) (sym (lowest_first w (some_left w k ks e l) small) ∙ e) ∙ drop-drop 1 k ks
 
 -- ---- members written one after the other
 pub laid_more : (out : List ℕ) (n v : ℕ) (ys : List ℕ) → n < length out → laid (set out n v) (n + 1) ys ≡ laid out n (v ∷ ys)

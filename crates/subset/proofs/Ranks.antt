@@ -1,13 +1,13 @@
 -- Members cut out by rank, word by word.
-use Rattle.std.proofs.Common.{◌≡◌, ℕ, ◌+◌, ◌-◌, ◌*◌, ◌/◌, ◌%◌, ◌^◌, ◌<◌, ◌≤◌, Bool, true, false, not, ◌&&◌, ◌||◌, ltb, leb, ◌⊎◌, List, [], ◌∷◌, ◌++◌, map, length, get_or, take, drop, set, sym, refl, ap, ◌∙◌, ap₂, inl, inr, append-nil, arith, length-append, get_or-set_other, get_or-set_same}
+use Rattle.std.proofs.Common.{◌≡◌, ℕ, ◌+◌, ◌-◌, ◌*◌, ◌/◌, ◌%◌, ◌^◌, ◌<◌, ◌≤◌, Bool, true, false, not, ◌&&◌, ◌||◌, ltb, leb, ◌⊎◌, List, [], ◌∷◌, ◌++◌, map, length, get_or, take, drop, set, sym, refl, ap, ◌∙◌, subst, ap₂, inl, inr, append-nil, arith, length-append, get_or-set_other, get_or-set_same}
 use Rattle.std.specs.List.{filter}
 use lib.Bits.{bit_and, bit_or}
 use lib.ListN.{length-map}
 use Rattle.std.proofs.lemmas.List.{drop_all}
-use Rattle.std.proofs.lemmas.Bool.{lt-ltb, le-ltb, le-leb, lt-leb, cases_lt, cases_eq}
+use Rattle.std.proofs.lemmas.Bool.{lt-ltb, le-ltb, le-leb, lt-leb, leb-true, cases_lt, cases_eq}
 use Rattle.subset.specs.Parts.{some_of, has}
 use Rattle.subset.specs.Row.{digit, bit, members, cut_out, rank}
-use Rattle.subset.specs.Says.{Holds}
+use Rattle.subset.specs.Says.{Holds, After, few}
 use Rattle.subset.proofs.Lists.{row_from}
 use Rattle.subset.proofs.Order.{subsets_same}
 use Rattle.subset.proofs.Changes.{upto, has_upto, has_filtered, has_drop, has_cut, some_of_upto, some_of_those, some_of_cut}
@@ -139,3 +139,11 @@ cut_done from to ws₀ ws i before e d h t =
 pub cut_rest : (ws : List ℕ) (count to : ℕ) → 64 * length ws ≤ to → cut_out count to (members ws) ≡ take count (members ws)
 cut_rest ws count to h =
     ap (λ xs. take count (members ws) ++ xs) (drop_all to (members ws) (omega (arith, members_le ws))) ∙ append-nil (take count (members ws))
+
+-- so a cut up to there keeps the first ones
+pub kept : (ws ws₁ : List ℕ) (count to : ℕ) → count ≤ to → 4096 ≤ to → After (few ws && leb count to) ws (cut_out count to (members ws)) ws₁ → After (few ws) ws (take count (members ws)) ws₁
+kept ws ws₁ count to h m a = go (few ws) refl (subst (λ (b : Bool). After (few ws && b) ws (cut_out count to (members ws)) ws₁) (le-leb count to h) a)
+  where
+    go : (b : Bool) → few ws ≡ b → After (b && true) ws (cut_out count to (members ws)) ws₁ → After b ws (take count (members ws)) ws₁
+    go true e a = subst (λ (ks : List ℕ). Holds ws₁ (length ws) ks) (cut_rest ws count to (omega (arith, leb-true (length ws) 64 e))) a
+    go false e a = a

@@ -1,14 +1,14 @@
 -- Rows of words, their bits and their members.
-use Rattle.std.proofs.Common.{◌≡◌, ℕ, zero, suc, ◌+◌, ◌-◌, ◌*◌, ◌/◌, ◌%◌, ◌^◌, ◌<◌, ◌≤◌, true, false, not, ◌&&◌, ◌||◌, eqb, ltb, ◌⊎◌, List, [], ◌∷◌, length, get_or, set, replicate, sym, refl, ap, ◌∙◌, ap₂, inl, inr, arith, length-set, get_or-set_other, get_or-set_same}
+use Rattle.std.proofs.Common.{◌≡◌, ℕ, zero, suc, ◌+◌, ◌-◌, ◌*◌, ◌/◌, ◌%◌, ◌^◌, ◌<◌, ◌≤◌, Bool, true, false, not, ◌&&◌, ◌||◌, eqb, ltb, ◌⊎◌, List, [], ◌∷◌, length, get_or, set, replicate, sym, refl, ap, ◌∙◌, ap₂, inl, inr, arith, length-set, get_or-set_other, get_or-set_same}
 use mathlib.Core.Bool.{and-true, and-false, or_comm}
 use lib.Bits.{bit_and, bit_or, or_lt, and_le_l}
 use lib.ListN.{length-replicate}
 use Rattle.std.proofs.lemmas.List.FromFn.{length-map-range_with_len, get_or-map-range_with_len, fill_by_all}
 use Rattle.std.proofs.lemmas.List.{get_or_past, get_or-replicate, set_past}
-use Rattle.std.proofs.lemmas.Bool.{lt-ltb, ltb-true, eq-eqb, ne_eqb, cases_eq, cases_lt, and_parts}
+use Rattle.std.proofs.lemmas.Bool.{lt-ltb, ltb-true, eq-eqb, ne_eqb, cases_eq, cases_lt, and_parts, both_ways}
 use Rattle.subset.specs.Parts.{all_parts, some_of, without, has}
 use Rattle.subset.specs.Row.{digit, bit, members, word_by, words_by, words_of, with_part}
-use Rattle.subset.specs.Says.{Holds}
+use Rattle.subset.specs.Says.{Holds, After}
 use Rattle.subset.specs.Laws.{all_small}
 use Rattle.subset.proofs.Lists.{length_those, length_all}
 use Rattle.subset.proofs.Order.{subsets_same, past}
@@ -90,6 +90,10 @@ holds ws ks n e small s h =
     go : (p : ℕ) → (p < 64 * n) ⊎ (64 * n ≤ p) → bit ws p ≡ has ks p
     go p (inl l) = h p l
     go p (inr l) = bit_past ws p (omega arith) ∙ sym (past (64 * n) ks p l s)
+
+pub done : (b : Bool) (ws ks ws₁ : List ℕ) → b ≡ true → Holds ws₁ (length ws) ks → After b ws ks ws₁
+done true ws ks ws₁ e h = h
+done false ws ks ws₁ e h = absurd (both_ways _ refl e)
 
 pub members_words : (n : ℕ) (ks : List ℕ) → some_of (64 * n) ks ≡ true → members (words_of n ks) ≡ ks
 members_words n ks s = (holds (words_of n ks) ks n (length_words n ks) (small_words n ks) s (bit_words n ks)).left

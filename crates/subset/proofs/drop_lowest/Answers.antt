@@ -1,25 +1,25 @@
-use Rattle.std.proofs.Common.{◌≡◌, suc, ◌-◌, ◌<◌, [], ◌∷◌, drop, sym, refl, ap, ◌∙◌, ap₂, arith, w64, Fits, rules}
-use lib.Bits.{and_le_l}
+use Rattle.std.proofs.Common.{◌≡◌, ◌⊎◌, ◌<◌, ◌≤◌, [], ◌∷◌, drop, length, inl, inr, sym, ap, ◌∙◌, arith}
 use Rattle.std.proofs.lemmas.List.{drop_all}
+use Rattle.std.proofs.lemmas.Bool.{cases_lt}
 use Rattle.subset.specs.Row.{members}
-use Rattle.subset.proofs.Lowest.{lowest_first, none_of_zero}
+use Rattle.subset.proofs.Lowest.{some_left, next_left}
 use Rattle.subset.proofs.drop_lowest.Goals as goal
 
-pub loop-count-init : goal.loop-count-init
-loop-count-init c =
-    let small : Fits w64 c.args.word = search rules in
-    (omega (arith, small.fits), refl)
+pub overflow_sub-word : goal.overflow_sub-word
+overflow_sub-word c =
+    some_left c.loop.word c.loop.counter (members (c.args.word ∷ [])) c.loop.invariant (omega (arith, c.ones.ensures.count, c.min-end.ensures, c.loop-test.true))
 
-pub loop-count-preserved : goal.loop-count-preserved
-loop-count-preserved c =
-    let pos : 0 < c.loop-count.word = omega arith in (
-      omega (arith, and_le_l c.loop-count.word (c.loop-count.word - 1), c.loop-count.invariant.0),
-      sym (ap₂ (λ k xs. drop k xs) (let z : c.loop-count.count ≡ suc (c.loop-count.count - 1) = omega arith in z)
-          (lowest_first c.loop-count.word pos c.loop-count.invariant.0))
-          ∙ c.loop-count.invariant.1,
-    )
+pub loop-preserved : goal.loop-preserved
+loop-preserved c =
+    next_left c.loop.word c.loop.counter (members (c.args.word ∷ [])) c.loop.auto.word-fits.fits c.loop.invariant
+    (omega (arith, c.ones.ensures.count, c.min-end.ensures, c.loop-test.true))
 
-pub returns-else-word-ne0 : goal.returns-else-word-ne0
-returns-else-word-ne0 c =
-    let none : members (c.loop-count.word ∷ []) ≡ [] = none_of_zero c.loop-count.word c.if-word-ne0.false in
-    none ∙ sym (ap (drop c.loop-count.count) none ∙ drop_all c.loop-count.count [] (omega arith)) ∙ c.loop-count.invariant.1
+pub returns : goal.returns
+returns c = c.loop.invariant ∙ go (cases_lt c.args.count (length (members (c.args.word ∷ []))))
+  where
+    go : (c.args.count < length (members (c.args.word ∷ []))) ⊎ (length (members (c.args.word ∷ [])) ≤ c.args.count)
+        → drop c.loop.counter (members (c.args.word ∷ [])) ≡ drop c.args.count (members (c.args.word ∷ []))
+    go (inl l) = ap (λ k. drop k (members (c.args.word ∷ []))) (omega (arith, c.ones.ensures.count, c.min-end.ensures))
+    go (inr l) =
+        drop_all c.loop.counter (members (c.args.word ∷ [])) (omega (arith, c.ones.ensures.count, c.min-end.ensures))
+        ∙ sym (drop_all c.args.count (members (c.args.word ∷ [])) l)

@@ -1,41 +1,52 @@
-use Rattle.std.proofs.Common.{◌≡◌, ◌+◌, ◌-◌, ◌<◌, [], ◌∷◌, map, length, sym, refl, ap, ◌∙◌, arith, w64, Fits, rules}
-use lib.Bits.{bit_and, and_le_l}
-use lib.Count.{count_trailing_zeros}
+use Rattle.std.proofs.Common.{◌≡◌, ℕ, ◌+◌, ◌-◌, ◌<◌, List, [], ◌∷◌, ◌++◌, map, length, take, drop, sym, refl, ap, ap₂, ◌∙◌, append-nil, length-drop, drop-drop, arith}
+use lib.Bits.{bit_and}
+use lib.ListN.{length-map}
+use Rattle.std.proofs.lemmas.List.{drop_all, length-take}
 use Rattle.subset.specs.Row.{members}
 use Rattle.subset.specs.Says.{laid}
-use Rattle.subset.proofs.Lowest.{lowest_first, none_of_zero, laid_more, laid_none}
+use Rattle.subset.proofs.Lowest.{lowest_first, some_left, next_left, laid_more, laid_none}
 use Rattle.subset.proofs.tell_word.Goals as goal
 
-module _ (c : goal.In-loop-word) where
-  first : members (c.loop-word.word ∷ []) ≡ count_trailing_zeros 64 c.loop-word.word ∷ members (bit_and c.loop-word.word (c.loop-word.word - 1) ∷ [])
-  first =
-      let pos : 0 < c.loop-word.word = omega arith in
-      lowest_first c.loop-word.word pos c.loop-word.invariant.0
+pub loop-place-init : goal.loop-place-init
+loop-place-init c =
+    let ys : List ℕ = map (λ b. c.args.base + b) (members (c.args.word ∷ [])) in (
+      refl,
+      ap (λ zs. ys ++ zs)
+          (drop_all (0 + length ys) _
+          (omega (arith, length-map (members (c.args.word ∷ [])) (λ b. c.args.base + b), length-take (c.args.told + c.ones.result - c.args.told) (drop c.args.told c.args.out.now), c.ones.ensures.count)))
+          ∙ append-nil ys,
+    )
 
-  room : c.loop-word.told < length c.loop-word.out
-  room = omega (arith, ap length first, c.loop-word.invariant.1, c.loop-word.auto.out, c.requires.room)
+module _ (c : goal.After-place-1) where
+  more : c.loop-place.place-index < length (members (c.args.word ∷ []))
+  more =
+      omega (arith, length-take (c.args.told + c.ones.result - c.args.told) (drop c.args.told c.args.out.now), c.ones.ensures.count, c.loop-place-test.true)
 
-pub loop-word-init : goal.loop-word-init
-loop-word-init c =
-    let small : Fits w64 c.args.word = search rules in
-    (omega (arith, small.fits), refl, refl)
+  left : 0 < c.loop-place.word
+  left = some_left c.loop-place.word c.loop-place.place-index (members (c.args.word ∷ [])) c.loop-place.invariant.0 more
 
-pub bounds-out-told : goal.bounds-out-told
-bounds-out-told c = omega (arith, room c)
+pub overflow_sub-word : goal.overflow_sub-word
+overflow_sub-word c = left c
 
-pub loop-word-preserved : goal.loop-word-preserved
-loop-word-preserved c = (
-  omega (arith, and_le_l c.loop-word.word (c.loop-word.word - 1), c.loop-word.invariant.0),
-  omega (arith, ap length (first c), c.loop-word.invariant.1),
-  laid_more c.loop-word.out c.loop-word.told _ (map (λ b. c.args.base + b) (members (bit_and c.loop-word.word (c.loop-word.word - 1) ∷ []))) (room c)
-      ∙ ap (λ xs. laid c.loop-word.out c.loop-word.told (map (λ b. c.args.base + b) xs)) (sym (first c)) ∙ c.loop-word.invariant.2,
+pub loop-place-preserved : goal.loop-place-preserved
+loop-place-preserved c = (
+  next_left c.loop-place.word c.loop-place.place-index (members (c.args.word ∷ [])) c.loop-place.auto.word-fits.fits c.loop-place.invariant.0 (more c),
+  laid_more c.loop-place.place-items c.loop-place.place-index _ (map (λ b. c.args.base + b) (members (bit_and c.loop-place.word (c.loop-place.word - 1) ∷ [])))
+      (omega (arith, c.loop-place.auto.place-items, c.loop-place-test.true))
+      ∙ ap (λ xs. laid c.loop-place.place-items c.loop-place.place-index (map (λ b. c.args.base + b) xs)) (sym (lowest_first c.loop-place.word (left c) c.loop-place.auto.word-fits.fits))
+      ∙ c.loop-place.invariant.1,
 )
 
-pub returns : goal.returns
-returns c =
-    let none : members (c.loop-word.word ∷ []) ≡ [] = none_of_zero c.loop-word.word (omega arith) in
-    record {
-      end = omega (arith, ap length none, c.loop-word.invariant.1);
-      row = sym (laid_none c.loop-word.out c.loop-word.told)
-          ∙ ap (λ xs. laid c.loop-word.out c.loop-word.told (map (λ b. c.args.base + b) xs)) (sym none) ∙ c.loop-word.invariant.2;
-    }
+pub returns-clause-row : goal.returns-clause-row
+returns-clause-row c =
+    let ks : List ℕ = members (c.args.word ∷ []) in
+    let none : members (c.loop-place.word ∷ []) ≡ [] =
+    c.loop-place.invariant.0
+    ∙ drop_all c.loop-place.place-index ks
+    (omega (arith, length-take (c.args.told + c.ones.result - c.args.told) (drop c.args.told c.args.out.now), length-drop c.args.told c.args.out.now, c.ones.ensures.count, c.loop-place-test.false, c.requires.room)) in
+    let all : c.loop-place.place-items ≡ map (λ b. c.args.base + b) ks =
+    sym (laid_none c.loop-place.place-items c.loop-place.place-index)
+    ∙ ap (λ xs. laid c.loop-place.place-items c.loop-place.place-index (map (λ b. c.args.base + b) xs)) (sym none) ∙ c.loop-place.invariant.1 in
+    ap₂ (λ zs vs. take c.args.told c.args.out.now ++ (zs ++ vs)) all
+    (drop-drop (c.args.told + c.ones.result - c.args.told) c.args.told c.args.out.now
+    ∙ ap (λ k. drop k c.args.out.now) (omega (arith, length-map ks (λ b. c.args.base + b), c.ones.ensures.count)))

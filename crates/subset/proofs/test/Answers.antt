@@ -1,9 +1,9 @@
-use Rattle.std.proofs.Common.{sym, ◌∙◌}
-use Rattle.std.proofs.lemmas.Bool.{ltb-false}
-use Rattle.subset.proofs.Words.{has_members, bit_past}
+use Rattle.std.proofs.Common.{sym, ap, ◌∙◌, ◌%◌}
+use Rattle.subset.specs.Row.{bit, digit}
+use Rattle.subset.proofs.Digits.{digit_read}
+use Rattle.subset.proofs.Words.{has_members}
 use Rattle.subset.proofs.test.Goals as goal
 
--- past the last word nothing is in
 pub returns : goal.returns
-returns c =
-    sym (has_members c.args.words.now c.args.part ∙ bit_past c.args.words.now c.args.part (ltb-false _ _ (sym c.if-has_place.ensures)))
+unfolding bit
+returns c = digit_read _ _ ∙ ap (λ w. digit w (c.args.part % 64)) c.word_at.ensures ∙ sym (has_members c.args.words.now c.args.part)

@@ -1,7 +1,0 @@
-use Rattle.std.proofs.Common.{◌≡◌, ◌*◌, ◌≤◌, length}
-use Rattle.subset.specs.Row.{bit}
-use Rattle.subset.proofs.Changes.{upto}
-use Rattle.subset.proofs.at_rank.Given as goal
-
-abbrev pub invariant-loop-i : goal.invariant-loop-i
-invariant-loop-i l = (l.before ≡ length (upto (bit l.words) (64 * l.i))) × (l.before ≤ l.rank)
