@@ -1,11 +1,12 @@
 -- Runs that hear the same answers end alike; and so many answers tell only so many parts apart.
-use Rattle.std.proofs.Common.{◌≡◌, ℕ, zero, suc, ◌+◌, ◌^◌, ◌<◌, ◌≤◌, Bool, true, false, cond, not, eqb, List, [], ◌∷◌, ◌++◌, length, sym, refl, ap, ◌∙◌, subst, inl, inr, pow-suc, arith, length-append, pow_pos}
+use Rattle.std.proofs.Common.{rules, ◌≡◌, ℕ, zero, suc, ◌+◌, ◌^◌, ◌<◌, ◌≤◌, Bool, true, false, cond, not, List, [], ◌∷◌, ◌++◌, length, sym, refl, ap, ◌∙◌, subst, pow-suc, arith, length-append, pow_pos}
 use Rattle.std.specs.List.{filter}
 use mathlib.Core.List.{head-eq_of_cons-eq, tail-eq_of_cons-eq}
 use Rattle.std.proofs.lemmas.List.{append_assoc, length-map}
-use Rattle.std.proofs.lemmas.Bool.{cases_Bool, cond_both, lt-ltb, ltb-true, not-true, not_from_true, not_from_false}
+use Rattle.std.proofs.lemmas.List.Filters.{length-filter_both}
+use Rattle.std.proofs.lemmas.Bool.{cond_both, lt-ltb, ltb-true, not-true}
 use Rattle.subset.specs.Parts.{all_parts, some_of, has}
-use Rattle.subset.proofs.Lists.{Row, row_all, row_those, has_head, has_tail, has_those, those_in, those_out, length_all}
+use Rattle.subset.proofs.Lists.{Row, row_all, row_those, has_head, has_tail, has_those, length_all}
 use Rattle.subset.proofs.Order.{must_false, same_is}
 use Rattle.subset.proofs.Changes.{has_all}
 use Rattle.bisect.specs.Judge.{Judge, Decides}
@@ -66,7 +67,7 @@ module _ (n : ℕ) (f g : Judge) (Agree : List (List ℕ) → List (List ℕ) �
       (λ v. meet e k j (e.step m ev).memory (said v)) (e.step m ev).act d d₁ t
 
 decides : (n x : ℕ) → Decides (Decider x) n x
-decides n x js s = elim (has js x) as (λ b. eqb (cond b 1 0) 1 ≡ b) [ true ↦ refl | false ↦ refl ]
+decides n x js s = search rules
 
 -- whatever run ends with what is left leaves the part that decides: one does, and another of the same engine and judge leaves the same
 leaves_one : (e : Engine) (n x k : ℕ) → Reduces e → n ≤ 4096 → x < n → (run_of k n e (Decider x)).end ≡ told_left
@@ -123,15 +124,6 @@ asks_all e n w l = let c = (w.1 n (λ q. 0)).1 l refl in go c.0 (ap (λ R. R.ask
     go zero h = absurd (omega (arith, ap length h))
     go (suc k) h = first_act n (λ q. 0) _ (λ v. grows n e (λ q. 0) k (e.step e.start (parts n)).memory (said v)) _ (all_parts n) h
 
--- those of which p holds, and the others, are all
-parted : (p : ℕ → Bool) (xs : List ℕ) → length xs ≡ length (filter p xs) + length (filter (λ x. not (p x)) xs)
-parted p [] = refl
-parted p (x ∷ xs) =
-    elim (cases_Bool (p x)) [
-      | inl e ↦ rw (those_in p x xs e, those_out (λ y. not (p y)) x xs (not_from_true _ e)) (omega (arith, parted p xs))
-      | inr e ↦ rw (those_out p x xs e, those_in (λ y. not (p y)) x xs (not_from_false _ e)) (omega (arith, parted p xs))
-    ]
-
 -- of different parts at most one is all that is left
 one_left : (b n : ℕ) (xs ks : List ℕ) → Row b n xs → ((x : ℕ) → has xs x ≡ true → ks ≡ x ∷ []) → length xs ≤ 1
 one_left b n [] ks r h = omega arith
@@ -143,9 +135,7 @@ one_left b n (x ∷ y ∷ xs) ks r h =
 goes_on : (n : ℕ) (f : Judge) (qs : List (List ℕ)) (go : ℕ → List (List ℕ) → Ran) (q : List ℕ) (x : ℕ)
     → (acted n f qs go (ask q)).rest ≡ x ∷ [] → acted n f qs go (ask q) ≡ go (f q) (q ∷ qs)
 unfolding acted
-goes_on n f qs go q x =
-    cond_both (some_of n q) (go (f q) (q ∷ qs)) (ran qs strayed []) (λ R. R.rest ≡ x ∷ [] → R ≡ go (f q) (q ∷ qs))
-    (λ b h. refl) (λ b h. absurd (omega (arith, ap length h)))
+goes_on n f qs go q x = search rules
 
 -- a run for x leaves x alone, and asks at most c questions more
 abbrev Leaves : ℕ → ℕ → List (List ℕ) → Ran → Type 0
@@ -197,7 +187,7 @@ module _ (n : ℕ) (e : Engine) where
   few_found zero b m qs (ask q) xs r h = one_left b n xs [] r (λ x g. absurd (spent m qs q x (h x g)))
   few_found (suc c) b m qs (ask q) xs r h =
       let hear = few_hear c (few_found c) b m qs q xs r h in
-      omega (arith, parted (has q) xs, hear (has q) 1 (λ x g. rw g), hear (λ x. not (has q x)) 0 (λ x g. rw (not-true _ g)), pow-suc 2 c)
+      omega (arith, length-filter_both (has q) (λ x. not (has q x)) (λ _. refl) xs, hear (has q) 1 (λ x g. rw g), hear (λ x. not (has q x)) 0 (λ x g. rw (not-true _ g)), pow-suc 2 c)
   few_found c b m qs (left ks) xs r h = omega (arith, one_left b n xs ks r (λ x g. (h x g).1.0), pow_pos c)
   few_found c b m qs sound xs r h = omega (arith, one_left b n xs [] r (λ x g. (h x g).1.0), pow_pos c)
   few_found c b m qs refused xs r h = omega (arith, one_left b n xs [] r (λ x g. (h x g).1.0), pow_pos c)

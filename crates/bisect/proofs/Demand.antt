@@ -1,5 +1,5 @@
 -- What is demanded of a run's end may be weakened; so the sharp counts give the whole promise.
-use Rattle.std.proofs.Common.{ℕ, ◌+◌, ◌*◌, ◌≤◌, mul_assoc, add-mul, mul-add, arith}
+use Rattle.std.proofs.Common.{rules, ℕ, ◌+◌, ◌*◌, ◌≤◌, arith}
 use Rattle.bisect.specs.Judge.{Judge}
 use Rattle.bisect.specs.Engine.{Engine, Ran}
 use Rattle.bisect.specs.Promise.{Lessened, Demands, Sharp, Whole, LeanLeast}
@@ -15,7 +15,7 @@ demands_weaker More Less e weaker (steady, d) = (
 
 -- the sharp count is below the bound of the whole promise
 pub square : (n : ℕ) → 7 * (n * n) + 20 * n + 14 ≤ 15 * (n + 1) * (n + 1)
-square n = omega (arith, mul_assoc 15 (n + 1) (n + 1), mul-add (n + 1) n 1, add-mul n 1 n)
+square n = search rules
 
 pub sharp_whole : (e : Engine) → Sharp e → Whole e
 unfolding LeanLeast

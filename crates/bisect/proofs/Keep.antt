@@ -1,5 +1,5 @@
 -- The laws of `keep` and `above`: all that the proof of a pass knows of them.
-use Rattle.std.proofs.Common.{◌≡◌, ℕ, zero, suc, ◌+◌, ◌<◌, ◌≤◌, true, ◌⊎◌, List, [], ◌∷◌, ◌++◌, length, get_or, take, drop, sym, refl, subst, inl, inr, le_of_suc-le-suc, not-suc-le-zero, arith, length-append, length-drop, length-take, length-take-le, drop-cons, take-take, take_at, drop_at}
+use Rattle.std.proofs.Common.{◌≡◌, ℕ, suc, ◌+◌, ◌<◌, ◌≤◌, true, ◌⊎◌, List, [], ◌∷◌, ◌++◌, length, get_or, take, drop, sym, refl, subst, inl, inr, arith, length-append, length-drop, length-take, length-take-le, drop-cons, drop-drop, ◌-◌, take-take, take_at, drop_at}
 use lib.Seq.{take-append-le, drop-length}
 use Rattle.subset.specs.Parts.{some_of, without, has}
 use Rattle.subset.proofs.Lists.{Row, row_drop, row_from, has_append, has_take, has_drop, has_cons, without_at}
@@ -71,7 +71,4 @@ above_row n r ks h e =
 
 pub above_above : (a b : ℕ) (ks : List ℕ) (y : ℕ) → a ≤ b → has (above b ks) y ≡ true → has (above a ks) y ≡ true
 unfolding above
-above_above zero b ks y h e = has_drop b ks y e
-above_above (suc a) zero ks y h e = absurd (not-suc-le-zero h)
-above_above (suc a) (suc b) [] y h e = e
-above_above (suc a) (suc b) (k ∷ ks) y h e = above_above a b ks y (le_of_suc-le-suc h) e
+above_above a b ks y h e = has_drop (b - a) (drop a ks) y (rw (drop-drop (b - a) a ks, let same : a + (b - a) ≡ b = omega arith in same) e)

@@ -1,51 +1,62 @@
 -- Steps of the loops that test whether parts rise, and that copy all but one.
-use Rattle.std.proofs.Common.{◌≡◌, ℕ, zero, suc, ◌+◌, ◌<◌, ◌≤◌, true, not, ◌&&◌, eqb, ltb, List, [], ◌∷◌, ◌++◌, length, get_or, take, drop, set, sym, refl, ap, ◌∙◌, ap₂, le_of_suc-le-suc, not-suc-le-zero, arith, take-append-drop}
-use Rattle.std.proofs.lemmas.List.{append_assoc, append-nil, at_drop_more, drop_all, drop-drop, drop-set-lt, length-take-le, take_more_set}
-use Rattle.std.proofs.lemmas.Bool.{eq-eqb, ne_eqb, not_from_true, not_from_false}
+use Rattle.std.proofs.Common.{◌≡◌, ℕ, Bool, true, false, zero, suc, ◌+◌, ◌-◌, ◌≤◌, cond, inl, inr, length-drop, take_all, not, eqb, ltb, List, [], ◌∷◌, ◌++◌, length, get_or, take, drop, sym, refl, ap, ◌∙◌, not-suc-le-zero, arith}
+use Rattle.std.specs.List.{IsAllAdjacentAnswer, position, position_or_len}
+use Rattle.std.proofs.Math.Bool.{and-false}
+use Rattle.std.proofs.lemmas.Bool.{not_from_false}
 use Rattle.subset.specs.Parts.{rising, without}
-use Rattle.subset.proofs.Lists.{those_in, those_out}
+use Rattle.std.proofs.lemmas.Bool.{and_parts, ltb-true, eqb-true, cases_lt, cases_Bool, lt-ltb}
+use Rattle.std.proofs.lemmas.List.Quantifiers.{position-Some}
+use Rattle.std.specs.Prelude.{Some, None, Option}
+use Rattle.subset.proofs.Lists.{Row, without_at, those_in}
 
--- from one part on, by it and the next
-pub rising_more : (ks : List ℕ) (i j : ℕ) → suc i ≡ j → j < length ks → rising (drop i ks) ≡ (ltb (get_or ks i 0) (get_or ks j 0) && rising (drop j ks))
+next : (x : ℕ) (ks : List ℕ) (k d : ℕ) → get_or (x ∷ ks) (suc k + 1) d ≡ get_or ks (k + 1) d
+next x ks k d = ap (λ n. get_or (x ∷ ks) n d) (let e : suc k + 1 ≡ suc (k + 1) = omega arith in e)
+
+-- what std says of each part and the next, as `rising` says it
+pub rising_answer : (ks : List ℕ) (r : Bool) → IsAllAdjacentAnswer (λ x y b. b ≡ ltb x y) ks r → r ≡ rising ks
 unfolding rising
-rising_more ks i j e h = rw (← e) (go ks i (rw (← e) at h))
+rising_answer [] true h = refl
+rising_answer [] false (k, l, h) = absurd (not-suc-le-zero l)
+rising_answer (x ∷ []) true h = refl
+rising_answer (x ∷ []) false (k, l, h) = absurd (omega (arith, l))
+rising_answer (x ∷ y ∷ ys) true h =
+    rw (← (h 0 0 (omega arith))) (rising_answer (y ∷ ys) true (λ k d l. rw (← (next x (y ∷ ys) k d)) (h (suc k) d (omega arith))))
+rising_answer (x ∷ y ∷ ys) false (zero, l, h) = rw (← (h 0)) refl
+rising_answer (x ∷ y ∷ ys) false (suc k, l, h) =
+    rw (← (rising_answer (y ∷ ys) false (k, omega arith, λ d. rw (← (next x (y ∷ ys) k d)) (h d)))) (sym (and-false (ltb x y)))
+
+-- what rises is a row
+rising_row : (ks : List ℕ) → rising ks ≡ true → (n : ℕ) × Row 0 n ks
+unfolding rising
+rising_row [] h = (0, tt)
+rising_row (k ∷ []) h = (suc k, (omega arith, omega arith, tt))
+rising_row (k ∷ j ∷ ks) h =
+    let (less, more) = and_parts _ _ h in
+    let (n, w) = rising_row (j ∷ ks) more in
+    let up = ltb-true k j less in
+    (n, (omega arith, omega (arith, up, w.1), (up, w.1, w.2)))
+
+abbrev at : ℕ → List ℕ → Option ℕ
+at part ks = position (λ p. eqb p part) ks
+
+-- without a part that stands at i, and without one that stands nowhere
+pub left_at : (part : ℕ) (ks : List ℕ) (i : ℕ) → rising ks ≡ true → at part ks ≡ Some i → take i ks ++ take (length ks - (i + 1)) (drop (i + 1) ks) ≡ without part ks
+left_at part ks i h e =
+    let (l, found, _) = position-Some (λ p. eqb p part) ks i 0 e in
+    let (n, w) = rising_row ks h in
+    let rest : take (length ks - (i + 1)) (drop (i + 1) ks) ≡ drop (i + 1) ks = take_all _ _ (simp length-drop (omega arith)) in
+    let next : i + 1 ≡ suc i = omega arith in
+    ap (λ xs. take i ks ++ xs) rest ∙ rw (← (eqb-true _ _ found), next) (sym (without_at 0 n ks i l w))
+
+pub left_all : (part : ℕ) (ks : List ℕ) → at part ks ≡ None → without part ks ≡ ks
+left_all part ks e = go ks (full (position_or_len (λ p. eqb p part) ks) (length ks) e)
   where
-    go : (ks : List ℕ) (i : ℕ) → suc i < length ks → rising (drop i ks) ≡ (ltb (get_or ks i 0) (get_or ks (suc i) 0) && rising (drop (suc i) ks))
-    go [] i h = absurd (not-suc-le-zero h)
-    go (k ∷ []) i h = absurd (not-suc-le-zero (le_of_suc-le-suc h))
-    go (k ∷ j ∷ ks) zero h = refl
-    go (k ∷ j ∷ ks) (suc i) h = go (j ∷ ks) i (le_of_suc-le-suc h)
+    full : (i n : ℕ) → cond (ltb i n) (Some i) None ≡ None → n ≤ i
+    full i n e = elim (cases_lt i n) [ inl l ↦ (let some = lt-ltb i n l in cc) | inr l ↦ l ]
 
-pub rising_all : (ks : List ℕ) (i : ℕ) → length ks ≤ suc i → rising (drop i ks) ≡ true
-unfolding rising
-rising_all [] zero h = refl
-rising_all [] (suc i) h = refl
-rising_all (k ∷ []) zero h = refl
-rising_all (k ∷ j ∷ ks) zero h = absurd (not-suc-le-zero (le_of_suc-le-suc h))
-rising_all (k ∷ ks) (suc i) h = rising_all ks i (le_of_suc-le-suc h)
-
--- after i of the parts, the first n places of the row have those that stay, and behind them nothing has changed
-abbrev pub Leaving : (part : ℕ) (ks out₀ out : List ℕ) (i n : ℕ) → Type 0
-Leaving part ks out₀ out i n = (take n out ++ without part (drop i ks) ≡ without part ks) × (drop n out ≡ drop n out₀) × (n ≤ i)
-
-pub leaving_out : (part : ℕ) (ks out₀ out : List ℕ) (i n : ℕ) → i < length ks → get_or ks i 0 ≡ part
-    → Leaving part ks out₀ out i n → Leaving part ks out₀ out (i + 1) n
-leaving_out part ks out₀ out i n l e t =
-    let next = at_drop_more (without part) ks i 0 l ∙ those_out (λ j. not (eqb j part)) _ _ (not_from_true _ (eq-eqb _ _ e)) in
-    (rw next at t.0, t.1, omega arith)
-
-pub leaving_in : (part : ℕ) (ks out₀ out : List ℕ) (i n : ℕ) → i < length ks → n < length out → (get_or ks i 0 ≡ part → ⊥)
-    → Leaving part ks out₀ out i n → Leaving part ks out₀ (set out n (get_or ks i 0)) (i + 1) (n + 1)
-leaving_in part ks out₀ out i n l m e t =
-    let next = at_drop_more (without part) ks i 0 l ∙ those_in (λ j. not (eqb j part)) _ _ (not_from_false _ (ne_eqb _ _ e)) in (
-      ap (λ xs. xs ++ without part (drop (i + 1) ks)) (take_more_set out n (get_or ks i 0) m) ∙ append_assoc (take n out) _ _ ∙ rw next at t.0,
-      drop-set-lt (n + 1) out n (get_or ks i 0) (omega arith) ∙ sym (drop-drop 1 n out) ∙ ap (drop 1) t.1 ∙ drop-drop 1 n out₀,
-      omega arith,
-    )
-
-pub leaving_all : (part : ℕ) (ks out₀ out : List ℕ) (i n : ℕ) → length ks ≤ i → n ≤ length out → Leaving part ks out₀ out i n
-    → (n ≡ length (without part ks)) × (out ≡ without part ks ++ drop (length (without part ks)) out₀)
-leaving_all part ks out₀ out i n l m t =
-    let front : take n out ≡ without part ks = sym (append-nil (take n out)) ∙ rw (drop_all i ks l) at t.0 in
-    let count : n ≡ length (without part ks) = sym (length-take-le n out m) ∙ ap length front in
-    (count, sym (take-append-drop n out) ∙ ap₂ ◌++◌ front (t.1 ∙ ap (λ k. drop k out₀) count))
+    go : (ks : List ℕ) → length ks ≤ position_or_len (λ p. eqb p part) ks → without part ks ≡ ks
+    go [] h = refl
+    go (k ∷ ks) h = elim (cases_Bool (eqb k part)) [
+      | inl e ↦ absurd (omega (arith, rw e at h))
+      | inr e ↦ rw (those_in (λ j. not (eqb j part)) k ks (not_from_false _ e)) (ap (λ l. k ∷ l) (go ks (omega (arith, rw e at h))))
+    ]

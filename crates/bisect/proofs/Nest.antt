@@ -1,7 +1,7 @@
 -- Every question lies strictly within what is held, so what is held lies within all that failed.
-use Rattle.std.proofs.Common.{◌≡◌, ℕ, zero, suc, ◌<◌, ◌≤◌, Bool, true, false, ltb, ◌⊎◌, List, [], ◌∷◌, length, get_or, take, sym, refl, ap, ◌∙◌, subst, inl, inr, le_of_suc-le-suc, not-suc-le-zero, arith}
+use Rattle.std.proofs.Common.{rules, ◌≡◌, ℕ, zero, suc, ◌<◌, ◌≤◌, Bool, true, false, ltb, ◌⊎◌, List, [], ◌∷◌, length, get_or, take, sym, refl, ap, ◌∙◌, subst, inl, inr, le_of_suc-le-suc, not-suc-le-zero, arith}
 use Rattle.std.specs.List.{list_any}
-use Rattle.std.proofs.lemmas.Bool.{and_from, ltb-true, lt-ltb, le-ltb, eq-eqb, both_ways, or_cases, or_left, or_right}
+use Rattle.std.proofs.lemmas.Bool.{and_from, ltb-true, lt-ltb, le-ltb, eq-eqb, both_ways, or_cases, or_left}
 use Rattle.subset.specs.Parts.{same, some_of, has}
 use Rattle.subset.proofs.Lists.{Row, row_from, row_get_or, those_in, those_out, has_append, has_get_or, has_those, has_every, every_has}
 use Rattle.subset.proofs.Order.{row_has, same_is, must_false}
@@ -20,7 +20,7 @@ pub asked_new : (q : List ℕ) (qs : List (List ℕ)) → asked_of (q ∷ qs) q 
 asked_new q qs = or_left (same q q) (list_any (same q) qs) (same_self q)
 
 pub asked_more : (q p : List ℕ) (qs : List (List ℕ)) → asked_of qs q ≡ true → asked_of (p ∷ qs) q ≡ true
-asked_more q p qs h = or_right (same q p) (list_any (same q) qs) h
+asked_more q p qs h = search rules
 
 asked_cases : (q p : List ℕ) (qs : List (List ℕ)) → asked_of (p ∷ qs) q ≡ true → (q ≡ p) ⊎ (asked_of qs q ≡ true)
 asked_cases q p qs h = elim (or_cases (same q p) (list_any (same q) qs) h) [ inl a ↦ inl (same_is q p a) | inr a ↦ inr a ]
@@ -36,7 +36,7 @@ pub record Came (f : Judge) (A : List ℕ) (qs : List (List ℕ)) (F : List ℕ)
   pub repeats : Repeats f qs
 
 pub came_known : (f : Judge) (A : List ℕ) → Came f A [] A
-came_known f A = record { asked = inr refl; inside = λ y h. h; nest = λ q h g y i. absurd (asked_none q h); repeats = tt }
+came_known f A = search rules
 
 pub came_asked : (f : Judge) (A : List ℕ) → Came f A (A ∷ []) A
 came_asked f A = record {
@@ -52,7 +52,7 @@ module _ (f : Judge) (A : List ℕ) (qs : List (List ℕ)) (F Q : List ℕ) (t :
 
   -- what would be asked a second time did not fail
   again : asked_of qs Q ≡ true → fails f Q ≡ false
-  again h = let w = strictly.1 in must_false _ (λ g. both_ways _ w.2 (t.nest Q h g w.0 w.1))
+  again h = search rules
 
   pub came_fails : fails f Q ≡ true → Came f A (Q ∷ qs) Q
   came_fails e = record {

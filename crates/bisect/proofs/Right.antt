@@ -1,7 +1,7 @@
 -- One pass, whatever its cuts are: what stands while it goes on, that each answer keeps it, and that it ends.
-use Rattle.std.proofs.Common.{◌≡◌, ℕ, zero, suc, ◌+◌, ◌<◌, ◌≤◌, Bool, true, false, not, ltb, List, length, get_or, take, sym, refl, ap, ◌∙◌, subst, inl, inr, le_of_suc-le-suc, not-suc-le-zero, arith}
+use Rattle.std.proofs.Common.{rules, ◌≡◌, ℕ, zero, suc, ◌+◌, ◌<◌, ◌≤◌, Bool, true, false, not, List, length, get_or, take, sym, refl, ap, ◌∙◌, subst, inl, inr, le_of_suc-le-suc, not-suc-le-zero, arith}
 use Rattle.std.specs.List.{list_all}
-use Rattle.std.proofs.lemmas.Bool.{ltb-true, ltb-false, both_ways, not_from_false, cond_both}
+use Rattle.std.proofs.lemmas.Bool.{ltb-false, both_ways, not_from_false, cond_both}
 use Rattle.subset.specs.Parts.{some_of, without, has}
 use Rattle.subset.proofs.Lists.{every_cons, without_some, without_within}
 use Rattle.subset.proofs.Order.{none_has, must_false}
@@ -47,7 +47,7 @@ fall_ready zero s i h = absurd (omega arith)
 fall_ready (suc r) s i h = h
 
 settled_ready : (s : Search) → Ready (settled s)
-settled_ready s = cond_both (ltb s.lo s.row) s (fall s.row s) Ready (λ e h. ltb-true _ _ e) (λ e. fall_ready s.row s refl)
+settled_ready s = search rules
 
 -- the numbers after an answer, before they are settled
 abbrev cut_off : ℕ → Search → Search
@@ -65,7 +65,7 @@ fall_spent zero s = refl
 fall_spent (suc r) s = refl
 
 settled_spent : (s : Search) → (settled s).spent ≡ s.spent
-settled_spent s = cond_both (ltb s.lo s.row) s (fall s.row s) (λ t. t.spent ≡ s.spent) (λ e. refl) (λ e. fall_spent s.row s)
+settled_spent s = search rules
 
 pub heard_spent : (c : ℕ) (s : Search) (b : Bool) → (heard c s b).spent ≡ suc s.spent
 heard_spent c s true = settled_spent (cut_off c s)
@@ -81,10 +81,10 @@ pub record Sized (most : ℕ) (p : Pass) : Type 0 where
 
 module _ (most : ℕ) where
   pub sized_fresh : (ks : List ℕ) → length ks ≤ most → Sized most (fresh ks)
-  sized_fresh ks h = record { low = omega arith; high = omega arith; fewer = omega arith; old = h; known = omega arith }
+  sized_fresh ks h = search rules
 
   pub sized_found : Finds (Sized most)
-  sized_found p r e i t = record { low = omega arith; high = omega arith; fewer = t.fewer; old = t.old; known = omega arith }
+  sized_found p r e i t = search rules
 
   module _ (c : ℕ) (p : Pass) (low : p.at.lo ≤ c) (high : c < p.at.row) (t : Sized most p) where
     pub sized_failed : Sized most (failed c p)
@@ -93,7 +93,7 @@ module _ (most : ℕ) where
         record { low = low; high = omega (arith, len); fewer = omega (arith, len, t.fewer); old = t.old; known = omega (arith, len) }
 
     pub sized_stood : Sized most (stood c p)
-    sized_stood = record { low = high; high = t.high; fewer = t.fewer; old = t.old; known = t.known }
+    sized_stood = search rules
 
 -- ---- what stands
 pub record Right (n : ℕ) (f : Judge) (p : Pass) : Type 0 where
@@ -158,14 +158,7 @@ module _ (n : ℕ) (f : Judge) where
         }
 
     pub right_stood : fails f (question c p) ≡ false → Right n f (stood c p)
-    right_stood e = record {
-      sized = sized_stood 4096 c p low high t.sized;
-      some = t.some;
-      bad = t.bad;
-      edge = λ l q. let q₁ : l ≡ c = omega arith in rw q₁ e;
-      surely = t.surely;
-      needs = t.needs;
-    }
+    right_stood e = search rules
 
     pub right_answered : (b : Bool) → fails f (question c p) ≡ b → Right n f (answered c p b)
     right_answered b e = answers (Right n f) right_found c p low high b (λ q. right_failed (e ∙ q)) (λ q. right_stood (e ∙ q))

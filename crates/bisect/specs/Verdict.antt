@@ -1,5 +1,6 @@
 -- The verdicts of a judge, and their numbers. Assumes nothing: these are definitions.
-use Rattle.std.specs.Prelude.{ℕ, cond, Some, None, Option, ◌==◌}
+use Rattle.std.specs.Prelude.{ℕ, cond, Ok, Err, Result, ◌==◌}
+use Rattle.bisect.specs.declared.verdict.NoVerdict.{NoVerdict}
 use Rattle.bisect.specs.declared.verdict.Verdict.{Verdict}
 use Rattle.bisect.specs.declared.verdict.Verdict.TheVariants.{No, Yes, Unclear}
 
@@ -8,5 +9,5 @@ number_of No = 0
 number_of Yes = 1
 number_of Unclear = 2
 
-abbrev pub verdict_of : ℕ → Option Verdict
-verdict_of n = cond (n == 0) (Some No) (cond (n == 1) (Some Yes) (cond (n == 2) (Some Unclear) None))
+abbrev pub verdict_of : ℕ → Result Verdict NoVerdict
+verdict_of n = cond (n == 0) (Ok No) (cond (n == 1) (Ok Yes) (cond (n == 2) (Ok Unclear) (Err (record { 0 = n }))))

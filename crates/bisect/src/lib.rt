@@ -1,30 +1,36 @@
 // The words of reducers: judges, lean subsets, engines and their runs; one pass over a subset that fails; and the entry that leaves one part out.
 #![tactic(auto)]
 
-ghost use Rattle.std.specs.Prelude.{◌≡◌, ◌≤◌, ◌++◌, length, drop};
+ghost use Rattle.std.specs.Prelude.{◌≡◌, ◌+◌, ◌≤◌, ◌++◌, length, drop, position, ◌==◌};
 ghost use Rattle.subset.specs.Laws.{TakenOut};
-ghost use Rattle.subset.specs.Parts.{rising, without};
+ghost use Rattle.subset.specs.Parts.{rising};
 ghost use Rattle.bisect.specs.Apart.{EnoughAsked, ToldApart};
 ghost use Rattle.bisect.specs.Pass.{AnyPass, Nested, OnePass};
 ghost use Rattle.bisect.specs.Promise.{LeanLeast, NeededLeft, OneDecides};
 ghost use Rattle.bisect.specs.Reply.{WithoutSays, refusal};
 
-pub use seeking::question;
-pub use verdict::{Verdict, fails};
+pub use seeking::{WrongLength, question};
+pub use verdict::{NoVerdict, Verdict, fails};
 
 mod seeking;
 mod verdict;
 
-#[derive(Clone, Copy)]
-pub enum Reply {
-    // So many are left.
-    Left(u64),
-    // The number of the refusal.
-    Refused(u64),
+// The most parts, and how many numbers a memory has.
+pub const MOST: u64 = 4096;
+
+pub const LENGTH: usize = 72;
+
+// Why no part is left out.
+#[derive(Clone, Copy, Debug, PartialEq, Eq)]
+pub enum LeaveOutError {
+    // The parts don't rise.
+    NotRising,
+    // The lent row is shorter than they are.
+    ShortRow,
 }
 
 // Where a pass stands over a subset that fails: its first members are the row, the others are known to be needed.
-#[derive(Clone, Copy)]
+#[derive(Clone, Copy, Debug, PartialEq, Eq)]
 pub struct Search {
     // What is known of the row: if this is l + 1, its first l with what is needed don't fail.
     pub lo: u64,
@@ -42,41 +48,43 @@ pub struct Search {
 pub fn rises(parts: &[u64]) -> bool
     ensures { result ≡ rising parts.now }
 {
-    for i in 1..parts.len() {
-        if parts[i - 1] >= parts[i] {
-            return false;
-        }
-    }
-    true
+    parts.is_sorted_by(|a, b| a < b)
 }
 
-// Copies the parts but one to the beginning of the row, and says how many those are.
-fn copy_but(parts: &[u64], out: &mut [u64], part: u64) -> u64
-    requires { length parts.now ≤ length out.old }
-    ensures count { result ≡ length (without part parts.now) }
-    ensures row { out.new ≡ without part parts.now ++ drop (length (without part parts.now)) out.old }
+// Two rows, one behind the other in the lent row, and how many numbers they are.
+fn lay(first: &[u64], second: &[u64], out: &mut [u64]) -> u64
+    requires { length first.now + length second.now ≤ length out.old }
+    ensures count { result ≡ length (first.now ++ second.now) }
+    ensures row { out.new ≡ (first.now ++ second.now) ++ drop (length (first.now ++ second.now)) out.old }
 {
-    let mut count = 0;
-    for p in parts {
-        if *p != part {
-            out[count] = *p;
-            count += 1;
-        }
-    }
-    count as u64
+    let middle = first.len();
+    let end = middle + second.len();
+    out[..middle].copy_from_slice(first);
+    out[middle..end].copy_from_slice(second);
+    end as u64
 }
 
-// The parts but one, in the lent row. Refused with 1 if they don't rise, with 2 if the row is shorter than they are.
-pub fn leave_out(parts: &[u64], out: &mut [u64], part: u64) -> Reply
+// Where a part stands.
+fn index_of(parts: &[u64], part: u64) -> Option<usize>
+    ensures { result ≡ position (λ p. p == part) parts.now }
+{
+    parts.iter().position(|p| *p == part)
+}
+
+// The parts but one, in the lent row, and how many those are. A refusal changes nothing.
+pub fn leave_out(parts: &[u64], out: &mut [u64], part: u64) -> Result<u64, LeaveOutError>
     ensures { WithoutSays parts.now out.old part (refusal parts.now out.old) result out.new }
 {
     if !rises(parts) {
-        return Reply::Refused(1);
+        return Err(LeaveOutError::NotRising);
     }
     if out.len() < parts.len() {
-        return Reply::Refused(2);
+        return Err(LeaveOutError::ShortRow);
     }
-    Reply::Left(copy_but(parts, out, part))
+    Ok(match index_of(parts, part) {
+        Some(i) => lay(&parts[..i], &parts[i + 1..], out),
+        None => lay(parts, &[], out),
+    })
 }
 
 // What is known of lean subsets, for every judge.
@@ -113,22 +121,28 @@ mod tests {
     #[test]
     fn leaves_one_out(rt: HostRuntime) {
         let mut out = [9; 5];
-        assert!(rt; matches!(leave_out(&[1, 4, 7], &mut out, 4), Reply::Left(2)));
+        assert_eq!(rt; leave_out(&[1, 4, 7], &mut out, 4), Ok(2));
         assert_eq!(rt; out, [1, 7, 9, 9, 9]);
     }
 
     #[test]
     fn leaves_all_where_it_is_not_there(rt: HostRuntime) {
         let mut out = [9; 3];
-        assert!(rt; matches!(leave_out(&[1, 4, 7], &mut out, 5), Reply::Left(3)));
+        assert_eq!(rt; leave_out(&[1, 4, 7], &mut out, 5), Ok(3));
         assert_eq!(rt; out, [1, 4, 7]);
     }
 
     #[test]
     fn refuses(rt: HostRuntime) {
         let mut out = [9; 2];
-        assert!(rt; matches!(leave_out(&[1, 4, 4], &mut out, 4), Reply::Refused(1)));
-        assert!(rt; matches!(leave_out(&[1, 4, 7], &mut out, 4), Reply::Refused(2)));
+        assert_eq!(rt;
+            leave_out(&[1, 4, 4], &mut out, 4),
+            Err(LeaveOutError::NotRising)
+        );
+        assert_eq!(rt;
+            leave_out(&[1, 4, 7], &mut out, 4),
+            Err(LeaveOutError::ShortRow)
+        );
         assert_eq!(rt; out, [9, 9]);
     }
 }

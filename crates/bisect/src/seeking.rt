@@ -1,15 +1,13 @@
 // Where a pass stands, read from and written to lent memory; the cut; what an answer does; and the question at the cut.
-ghost use Rattle.std.specs.Prelude.{◌≡◌, ◌+◌, ◌-◌, ◌*◌, ◌<◌, ◌≤◌, true, ◌++◌, length, drop, if◌then◌else◌};
+ghost use Rattle.std.specs.Prelude.{◌≡◌, ◌<◌, ◌≤◌, ok_or, if◌then◌else◌};
 ghost use Rattle.subset.specs.Row.{members};
 ghost use Rattle.subset.specs.Says.{Told};
-ghost use Rattle.bisect.specs.Search.{credit, guess, halved, heard, place, settled, shorn};
+ghost use Rattle.bisect.specs.Search.{guess, halved, heard, place, settled, shorn};
 ghost use Rattle.bisect.specs.Stand.{askable, asked, cut_at, given, noted, placed, sane, sought, whole};
 
-use super::Search;
+use super::{LENGTH, MOST, Search, lay};
 
-// How long a memory is, and where it holds what.
-const LENGTH: usize = 72;
-
+// Where a memory holds what.
 const LO: usize = 2;
 
 const ROW: usize = 3;
@@ -20,8 +18,9 @@ const SPENT: usize = 6;
 
 const SURE: usize = 7;
 
-// The most parts.
-const MOST: u64 = 4096;
+// A memory of another length.
+#[derive(Clone, Copy, Debug, PartialEq, Eq)]
+pub struct WrongLength;
 
 // The middle of what is open in the row.
 fn middle(lo: u64, row: u64) -> u64
@@ -37,19 +36,20 @@ fn share(row: u64, begun: u64, found: u64) -> u64
     requires small { begun ≤ 4096 }
     requires some { 0 < found }
     requires few { found ≤ 4096 }
-    ensures value { result ≡ guess row begun found }
-    ensures bound { result ≤ 28672 }
+    ensures { result ≡ guess row begun found }
 {
-    let g = 7 * (begun - row) / (10 * found);
-    if g < 1 { 1 } else { g }
+    (7 * (begun - row) / (10 * found)).max(1)
 }
 
 // The row without its last `last`, or without any where these are a quarter of it or more.
 fn shear(row: u64, last: u64) -> u64
-    requires { last ≤ 28672 }
     ensures { result ≡ shorn row last }
 {
-    if 4 * last >= row { 0 } else { row - last }
+    if last >= row.div_ceil(4) {
+        0
+    } else {
+        row - last
+    }
 }
 
 impl Search {
@@ -66,14 +66,14 @@ impl Search {
         }
     }
 
-    // What memory holds; none is said of one of another length.
-    pub fn read(memory: &[u64]) -> Option<Search>
-        ensures { result ≡ given (whole memory.now) (sought memory.now) }
+    // What memory holds.
+    pub fn read(memory: &[u64]) -> Result<Search, WrongLength>
+        ensures { result ≡ ok_or (given (whole memory.now) (sought memory.now)) (record {}) }
     {
         if memory.len() != LENGTH {
-            return None;
+            return Err(WrongLength);
         }
-        Some(Search {
+        Ok(Search {
             lo: memory[LO],
             row: memory[ROW],
             begun: memory[BEGUN],
@@ -82,20 +82,20 @@ impl Search {
         })
     }
 
-    // Notes it in memory, and says whether that has its length.
-    pub fn write(self, memory: &mut [u64]) -> bool
-        ensures said { result ≡ whole memory.old }
-        ensures after { memory.new ≡ (if result then noted self memory.old else memory.old) }
+    // Notes it in memory.
+    pub fn write(self, memory: &mut [u64]) -> Result<(), WrongLength>
+        ensures said { result ≡ ok_or (given (whole memory.old) tt) (record {}) }
+        ensures after { memory.new ≡ (if whole memory.old then noted self memory.old else memory.old) }
     {
         if memory.len() != LENGTH {
-            return false;
+            return Err(WrongLength);
         }
         memory[LO] = self.lo;
         memory[ROW] = self.row;
         memory[BEGUN] = self.begun;
         memory[SPENT] = self.spent;
         memory[SURE] = self.sure;
-        true
+        Ok(())
     }
 
     // Whether something is open in the row of so many members, of at most so many parts.
@@ -118,34 +118,21 @@ impl Search {
             && self.spent <= 13 * (count - self.row + 1)
     }
 
-    // Guesses are made at a fresh row, and only from what halving would have cost at worst.
-    fn has_credit(self, found: u64) -> bool
-        requires { found ≤ 4096 }
-        ensures { result ≡ credit self.lo self.row self.spent found }
-    {
-        self.lo == 0 && found > 0 && self.row > 4 && self.spent <= 13 * found
-    }
-
-    fn choose(self, count: u64) -> u64
-        requires { placed self count 4096 ≡ true }
-        ensures { result ≡ cut_at self count }
-    {
-        let found = count - self.row;
-        if self.has_credit(found) {
-            shear(self.row, share(self.row, self.begun, found))
-        } else {
-            middle(self.lo, self.row)
-        }
-    }
-
-    // Where the row of so many members is cut.
+    // Where the row of so many members is cut: guesses are made at a fresh row, and only from what halving would have
+    // cost at worst.
     pub fn cut(self, count: u64) -> Option<u64>
         ensures { result ≡ given (placed self count 4096) (cut_at self count) }
     {
         if !self.is_placed(count, MOST) {
             return None;
         }
-        Some(self.choose(count))
+        let found = count - self.row;
+        let cut = if self.lo == 0 && found > 0 && self.row > 4 && self.spent <= 13 * found {
+            shear(self.row, share(self.row, self.begun, found))
+        } else {
+            middle(self.lo, self.row)
+        };
+        Some(cut)
     }
 
     // Where nothing of the row is left to ask of, its last is found.
@@ -195,37 +182,8 @@ impl Search {
         if !self.is_sane(count, MOST) {
             return None;
         }
-        Some(self.after(self.choose(count), fails))
+        Some(self.after(self.cut(count)?, fails))
     }
-}
-
-// The row's beginning and what is needed, one behind the other in the lent row.
-fn lay(beginning: &[u64], needed: &[u64], out: &mut [u64])
-    requires { length beginning.now + length needed.now ≤ length out.old }
-    ensures { out.new ≡ beginning.now ++ (needed.now ++ drop (length beginning.now + length needed.now) out.old) }
-{
-    let first = beginning.len();
-    let last = needed.len();
-    out[0..first].copy_from_slice(beginning);
-    out[first..first + last].copy_from_slice(needed);
-}
-
-fn ask_at(words: &[u64], at: Search, out: &mut [u64]) -> u64
-    requires few { length words.now ≤ 64 }
-    requires ahead { placed at (length (members words.now)) 4096 ≡ true }
-    requires room { 4096 ≤ length out.old }
-    ensures count { result ≡ length (asked at (members words.now)) }
-    ensures told { out.new ≡ asked at (members words.now) ++ drop (length (asked at (members words.now))) out.old }
-{
-    let mut row = [0; 4096];
-    let count = subset::tell(words, &mut row).unwrap_or(0);
-    let cut = at.choose(count);
-    lay(
-        &row[0..cut as usize],
-        &row[at.row as usize..count as usize],
-        out,
-    );
-    cut + (count - at.row)
 }
 
 // The question at the cut, in the lent row: the row's beginning, and behind it what is needed. None is asked where
@@ -233,9 +191,12 @@ fn ask_at(words: &[u64], at: Search, out: &mut [u64]) -> u64
 pub fn question(words: &[u64], at: Search, out: &mut [u64]) -> Option<u64>
     ensures { Told (askable at words.now out.old) (asked at (members words.now)) out.old result out.new }
 {
-    let count = subset::count(words)?;
-    if !at.is_placed(count, MOST) || out.len() < MOST as usize {
+    let mut row = [0; MOST as usize];
+    let count = subset::tell(words, &mut row)?;
+    let cut = at.cut(count)?;
+    if out.len() < MOST as usize {
         return None;
     }
-    Some(ask_at(words, at, out))
+    let (beginning, needed) = (&row[..cut as usize], &row[at.row as usize..count as usize]);
+    Some(lay(beginning, needed, out))
 }

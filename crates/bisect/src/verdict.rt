@@ -2,7 +2,7 @@
 ghost use Rattle.std.specs.Prelude.{◌≡◌, ◌==◌};
 ghost use Rattle.bisect.specs.Verdict.{number_of, verdict_of};
 
-#[derive(Clone, Copy)]
+#[derive(Clone, Copy, Debug, PartialEq, Eq)]
 pub enum Verdict {
     // It doesn't fail.
     No,
@@ -12,22 +12,30 @@ pub enum Verdict {
     Unclear,
 }
 
-impl Verdict {
-    pub fn from_number(number: u64) -> Option<Verdict>
-        ensures { result ≡ verdict_of number }
-    {
+// A number that is no verdict's.
+#[derive(Clone, Copy, Debug, PartialEq, Eq)]
+pub struct NoVerdict(pub u64);
+
+impl TryFrom<u64> for Verdict {
+    type Error = NoVerdict;
+
+    ghost try_from_gives = { λ number r. r ≡ verdict_of number };
+
+    fn try_from(number: u64) -> Result<Self, NoVerdict> {
         match number {
-            0 => Some(Verdict::No),
-            1 => Some(Verdict::Yes),
-            2 => Some(Verdict::Unclear),
-            _ => None,
+            0 => Ok(Verdict::No),
+            1 => Ok(Verdict::Yes),
+            2 => Ok(Verdict::Unclear),
+            _ => Err(NoVerdict(number)),
         }
     }
+}
 
-    pub fn number(self) -> u64
-        ensures { result ≡ number_of self }
-    {
-        match self {
+impl From<Verdict> for u64 {
+    ghost from_gives = { λ verdict number. number ≡ number_of verdict };
+
+    fn from(verdict: Verdict) -> u64 {
+        match verdict {
             Verdict::No => 0,
             Verdict::Yes => 1,
             Verdict::Unclear => 2,
@@ -39,11 +47,5 @@ impl Verdict {
 pub fn fails(number: u64) -> bool
     ensures { result ≡ (number == 1) }
 {
-    let Some(verdict) = Verdict::from_number(number) else {
-        return false;
-    };
-    match verdict {
-        Verdict::Yes => true,
-        Verdict::No | Verdict::Unclear => false,
-    }
+    matches!(Verdict::try_from(number), Ok(Verdict::Yes))
 }
