@@ -1,22 +1,14 @@
 -- What is printed of parts.
-use Rattle.std.specs.Prelude.{ℕ, List, [], ◌∷◌, ◌++◌, codes, decimal}
-
-abbrev pub behind_blank : ℕ → List ℕ
-behind_blank p = 32 ∷ decimal p
+use Rattle.std.specs.Prelude.{ℕ, List, [], ◌∷◌, ◌++◌, codes, decimal, flat_map}
+use Rattle.std.specs.List.{join_by}
 
 -- each part behind a blank
 abbrev pub behind_blanks : List ℕ → List ℕ
-behind_blanks [] = []
-behind_blanks (p ∷ ps) = behind_blank p ++ behind_blanks ps
+behind_blanks ps = flat_map (λ p. 32 ∷ decimal p) ps
 
--- the parts, with a blank between two
-abbrev pub separated : List ℕ → List ℕ
-separated [] = []
-separated (p ∷ ps) = decimal p ++ behind_blanks ps
-
--- a question: the parts, and a question mark
+-- a question: the parts, with a blank between two, and a question mark
 abbrev pub question_line : List ℕ → List ℕ
-question_line ps = separated ps ++ (63 ∷ [])
+question_line ps = join_by decimal (32 ∷ []) ps ++ (63 ∷ [])
 
 -- the end: the word, and each part that is left behind a blank
 abbrev pub left_line : List ℕ → List ℕ

@@ -1,45 +1,49 @@
 // The lines that are printed.
-ghost use Rattle.std.specs.Prelude.{◌≡◌, ◌++◌, IfOk, string_bytes, OnOk};
-ghost use Rattle.dialog.specs.Lines.{behind_blank, behind_blanks, question_line, left_line};
+ghost use Rattle.std.specs.Prelude.{Some};
+ghost use Rattle.dialog.specs.Lines.{behind_blanks, question_line, left_line};
 
-use std::alloc::Global;
 use std::fmt;
 
-fn push_part(line: &mut String, part: u64) -> fmt::Result
-    ensures { OnOk result (string_bytes line.new ≡ string_bytes line.old ++ behind_blank part) }
-{
-    write!(line, " {part}")?;
-    Ok(())
-}
+// Each part behind a blank.
+#[derive(Clone, Copy)]
+struct BehindBlanks<'a>(&'a [u64]);
 
-fn push_parts(line: &mut String, parts: &[u64]) -> fmt::Result
-    ensures { OnOk result (string_bytes line.new ≡ string_bytes line.old ++ behind_blanks parts.now) }
-{
-    for part in parts {
-        push_part(line, *part)?;
+impl fmt::Display for BehindBlanks<'_> {
+    ghost output = { λ b. Some (behind_blanks b.0.now) };
+
+    fn fmt<W: fmt::Write>(&self, f: &mut fmt::Formatter<W>) -> fmt::Result {
+        for part in self.0 {
+            write!(f, " {part}")?;
+        }
+        Ok(())
     }
-    Ok(())
 }
 
-pub fn question_line(heap: Global, parts: &[u64]) -> Result<String, fmt::Error>
-    ensures { IfOk result (λ t. string_bytes t ≡ question_line parts.now) }
-{
-    let mut line = String::new(heap);
-    if let Some((first, rest)) = parts.split_first() {
-        write!(line, "{first}")?;
-        push_parts(&mut line, rest)?;
+// The question whether these parts fail.
+#[derive(Clone, Copy)]
+pub struct Question<'a>(pub &'a [u64]);
+
+impl fmt::Display for Question<'_> {
+    ghost output = { λ q. Some (question_line q.0.now) };
+
+    fn fmt<W: fmt::Write>(&self, f: &mut fmt::Formatter<W>) -> fmt::Result {
+        if let [first, rest @ ..] = self.0 {
+            write!(f, "{first}{}", BehindBlanks(rest))?;
+        }
+        write!(f, "?")
     }
-    write!(line, "?")?;
-    Ok(line)
 }
 
-pub fn left_line(heap: Global, parts: &[u64]) -> Result<String, fmt::Error>
-    ensures { IfOk result (λ t. string_bytes t ≡ left_line parts.now) }
-{
-    let mut line = String::new(heap);
-    write!(line, "left")?;
-    push_parts(&mut line, parts)?;
-    Ok(line)
+// The end, with these parts left.
+#[derive(Clone, Copy)]
+pub struct Left<'a>(pub &'a [u64]);
+
+impl fmt::Display for Left<'_> {
+    ghost output = { λ l. Some (left_line l.0.now) };
+
+    fn fmt<W: fmt::Write>(&self, f: &mut fmt::Formatter<W>) -> fmt::Result {
+        write!(f, "left{}", BehindBlanks(self.0))
+    }
 }
 
 #[cfg(test)]
@@ -50,10 +54,10 @@ mod tests {
     #[test]
     fn lines(rt: HostRuntime) -> Result<(), Fail> {
         let heap = rt.alloc();
-        assert_eq!(rt; question_line(heap, &[0, 10, 4])?.as_str(), "0 10 4?");
-        assert_eq!(rt; question_line(heap, &[])?.as_str(), "?");
-        assert_eq!(rt; left_line(heap, &[1, 4])?.as_str(), "left 1 4");
-        assert_eq!(rt; left_line(heap, &[])?.as_str(), "left");
+        assert_eq!(rt; Question(&[0, 10, 4]).to_string(heap)?.as_str(), "0 10 4?");
+        assert_eq!(rt; Question(&[]).to_string(heap)?.as_str(), "?");
+        assert_eq!(rt; Left(&[1, 4]).to_string(heap)?.as_str(), "left 1 4");
+        assert_eq!(rt; Left(&[]).to_string(heap)?.as_str(), "left");
         Ok(())
     }
 }

@@ -1,13 +1,17 @@
 // What a line says. Lines are bytes, so that one which is no text can be read too.
-ghost use Rattle.std.specs.Prelude.{◌≡◌, true, reverse};
-ghost use Rattle.dialog.specs.Reading.{blank, unpadded, trimmed, letter_verdict, line_verdict, digit, digits_only, number_from, held, text_size};
+ghost use Rattle.std.specs.Prelude.{◌≡◌, ◌<◌, ◌≤◌, true, length};
+ghost use Rattle.std.specs.Char.{is_ascii_digit};
+ghost use Rattle.std.specs.List.{list_all, prefix_len, suffix_len};
+ghost use Rattle.dialog.specs.Reading.{blank, trimmed, line_verdict, number_from, held, text_size};
 
 use bisect::Verdict;
 
-#[derive(Clone, Copy, Debug, PartialEq)]
-pub enum Size {
-    Parts(u64),
+// Why a text is no number of parts.
+#[derive(Clone, Copy, Debug, PartialEq, Eq)]
+pub enum SizeError {
+    // A number that 64 bits don't hold.
     TooMany,
+    // Anything but digits.
     NoNumber,
 }
 
@@ -18,97 +22,64 @@ fn is_blank(byte: u8) -> bool
     matches!(byte, b' ' | b'\t' | b'\r')
 }
 
-fn trim_start(text: &[u8]) -> &[u8]
-    ensures { result.now ≡ unpadded text.now }
+// Each chain stands in a function of its own, where its value is proved with no proof file.
+fn blanks_before(text: &[u8]) -> usize
+    ensures value { result ≡ prefix_len blank text.now }
+    ensures within { result ≤ length text.now }
 {
-    let mut rest = text;
-    while let Some((first, after)) = rest.split_first() {
-        if !is_blank(*first) {
-            break;
-        }
-        rest = after;
-    }
-    rest
+    text.iter().take_while(|byte| is_blank(**byte)).count()
 }
 
-fn trim_end(text: &[u8]) -> &[u8]
-    ensures { result.now ≡ reverse (unpadded (reverse text.now)) }
+fn blanks_behind(text: &[u8]) -> usize
+    ensures value { result ≡ suffix_len blank text.now }
+    ensures within { result ≤ length text.now }
 {
-    let mut rest = text;
-    while let Some((last, before)) = rest.split_last() {
-        if !is_blank(*last) {
-            break;
-        }
-        rest = before;
-    }
-    rest
+    text.iter()
+        .rev()
+        .take_while(|byte| is_blank(**byte))
+        .count()
 }
 
 fn trim(text: &[u8]) -> &[u8]
     ensures { result.now ≡ trimmed text.now }
 {
-    trim_end(trim_start(text))
-}
-
-fn letter(byte: u8) -> Option<Verdict>
-    ensures { result ≡ letter_verdict byte }
-{
-    match byte {
-        b'y' => Some(Verdict::Yes),
-        b'n' => Some(Verdict::No),
-        b'u' => Some(Verdict::Unclear),
-        _ => None,
-    }
+    let rest = &text[blanks_before(text)..];
+    &rest[..rest.len() - blanks_behind(rest)]
 }
 
 pub fn verdict_in(line: &[u8]) -> Option<Verdict>
     ensures { result ≡ line_verdict line.now }
 {
     match trim(line) {
-        [byte] => letter(*byte),
+        [b'y'] => Some(Verdict::Yes),
+        [b'n'] => Some(Verdict::No),
+        [b'u'] => Some(Verdict::Unclear),
         _ => None,
     }
 }
 
-fn is_digit(byte: u8) -> bool
-    ensures { result ≡ digit byte }
-{
-    matches!(byte, b'0'..=b'9')
-}
-
 fn all_digits(text: &[u8]) -> bool
-    ensures { result ≡ digits_only text.now }
+    ensures { result ≡ list_all is_ascii_digit text.now }
 {
-    for byte in text {
-        if !is_digit(*byte) {
-            return false;
-        }
-    }
-    true
+    text.iter().all(|byte| byte.is_ascii_digit())
 }
 
 fn value(digits: &[u8]) -> Option<u64>
-    requires { digits_only digits.now ≡ true }
+    requires digits { list_all is_ascii_digit digits.now ≡ true }
+    requires some { 0 < length digits.now }
     ensures { result ≡ held (number_from 0 digits.now) }
 {
-    let mut value = 0u64;
-    for byte in digits {
-        value = value.checked_mul(10)?.checked_add(u64::from(*byte - b'0'))?;
-    }
-    Some(value)
+    str::from_utf8(digits).unwrap().parse().ok()
 }
 
-pub fn size_in(text: &[u8]) -> Size
+pub fn size_in(text: &[u8]) -> Result<u64, SizeError>
     ensures { result ≡ text_size text.now }
 {
     let digits = trim(text);
     if digits.is_empty() || !all_digits(digits) {
-        return Size::NoNumber;
+        return Err(SizeError::NoNumber);
     }
-    match value(digits) {
-        Some(n) => Size::Parts(n),
-        None => Size::TooMany,
-    }
+    value(digits).ok_or(SizeError::TooMany)
 }
 
 #[cfg(test)]
@@ -127,13 +98,13 @@ mod tests {
 
     #[test]
     fn sizes(rt: HostRuntime) {
-        assert_eq!(rt; size_in(b"6"), Size::Parts(6));
-        assert_eq!(rt; size_in(b" 006 "), Size::Parts(6));
-        assert_eq!(rt; size_in(b"0000000000000000000000006"), Size::Parts(6));
-        assert_eq!(rt; size_in(b"18446744073709551615"), Size::Parts(u64::MAX));
-        assert_eq!(rt; size_in(b"18446744073709551616"), Size::TooMany);
-        assert_eq!(rt; size_in(b"+6"), Size::NoNumber);
-        assert_eq!(rt; size_in(b"6 7"), Size::NoNumber);
-        assert_eq!(rt; size_in(b""), Size::NoNumber);
+        assert_eq!(rt; size_in(b"6"), Ok(6));
+        assert_eq!(rt; size_in(b" 006 "), Ok(6));
+        assert_eq!(rt; size_in(b"0000000000000000000000006"), Ok(6));
+        assert_eq!(rt; size_in(b"18446744073709551615"), Ok(u64::MAX));
+        assert_eq!(rt; size_in(b"18446744073709551616"), Err(SizeError::TooMany));
+        assert_eq!(rt; size_in(b"+6"), Err(SizeError::NoNumber));
+        assert_eq!(rt; size_in(b"6 7"), Err(SizeError::NoNumber));
+        assert_eq!(rt; size_in(b""), Err(SizeError::NoNumber));
     }
 }
