@@ -1,6 +1,6 @@
 -- Whole words at a time: counted, filled, joined.
 use Rattle.std.proofs.Common.{◌≡◌, ℕ, zero, suc, ◌+◌, ◌-◌, ◌*◌, ◌/◌, ◌%◌, ◌^◌, ◌<◌, ◌≤◌, min, Bool, true, false, cond, not, ◌&&◌, ◌||◌, eqb, ltb, ◌⊎◌, List, [], ◌∷◌, ◌++◌, map, length, take, get_or, set, sym, refl, ap, ◌∙◌, ap₂, inl, inr, append_assoc, append-nil, arith, length-append, get_or-set_other, get_or-set_same, pow_pos, pow_mono}
-use Rattle.std.specs.List.{filter, sum_by}
+use Rattle.std.specs.List.{sum_by}
 use lib.Bits.{bit_or, or_lt}
 use lib.Count.{ones, ones_in, ones_step}
 use lib.ListN.{length-map}

@@ -1,5 +1,5 @@
 -- The first member of a kind, found word by word.
-use Rattle.std.proofs.Common.{Some, None, Ok, ◌≡◌, ℕ, suc, ◌+◌, ◌-◌, ◌*◌, ◌^◌, ◌<◌, ◌≤◌, min, ◌/◌, ◌%◌, zero, Bool, true, false, not, ◌&&◌, eqb, ltb, leb, ◌⊎◌, List, [], ◌∷◌, ◌++◌, map, length, get_or, replicate, drop, sym, refl, ap, ◌∙◌, ap₂, inl, inr, append_assoc, arith}
+use Rattle.std.proofs.Common.{Some, None, Ok, ◌≡◌, ℕ, suc, ◌+◌, ◌-◌, ◌*◌, ◌^◌, ◌<◌, ◌≤◌, min, ◌/◌, ◌%◌, Bool, true, false, not, ◌&&◌, eqb, ltb, leb, ◌⊎◌, List, [], ◌∷◌, ◌++◌, map, length, get_or, replicate, drop, sym, refl, ap, ◌∙◌, ap₂, inl, inr, append_assoc, arith}
 use Rattle.std.specs.List.{filter, list_all, enumerate_from}
 use lib.Bits.{bit_and, and_le_l}
 use lib.Count.{count_trailing_zeros}

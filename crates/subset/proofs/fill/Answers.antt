@@ -1,7 +1,6 @@
-use Rattle.std.proofs.Common.{◌≡◌, ◌-◌, ◌*◌, ◌^◌, min, ◌&&◌, nat_le, length, true, ap, ◌∙◌, arith, rules}
-use Rattle.std.proofs.lemmas.List.Edits.{fill_by_more}
+use Rattle.std.proofs.Common.{◌≡◌, ◌*◌, ◌&&◌, nat_le, length, true, arith, rules}
 use Rattle.subset.specs.Says.{few}
-use Rattle.subset.proofs.Blocks.{first_word, fill_done}
+use Rattle.subset.proofs.Blocks.{fill_done}
 use Rattle.subset.proofs.Words.{done}
 use Rattle.subset.proofs.fill.Goals as goal
 

@@ -1,4 +1,4 @@
-use Rattle.std.proofs.Common.{◌≡◌, ℕ, ◌+◌, ◌-◌, ◌<◌, List, [], ◌∷◌, ◌++◌, map, length, take, drop, sym, refl, ap, ap₂, ◌∙◌, append-nil, length-drop, drop-drop, arith}
+use Rattle.std.proofs.Common.{◌≡◌, ℕ, ◌+◌, ◌-◌, ◌<◌, List, [], ◌∷◌, ◌++◌, map, length, take, drop, sym, ap, ap₂, ◌∙◌, length-drop, drop-drop, arith}
 use lib.Bits.{bit_and}
 use lib.ListN.{length-map}
 use Rattle.std.proofs.lemmas.List.{drop_all, length-take}
@@ -6,16 +6,6 @@ use Rattle.subset.specs.Row.{members}
 use Rattle.subset.specs.Says.{laid}
 use Rattle.subset.proofs.Lowest.{lowest_first, some_left, next_left, laid_more, laid_none}
 use Rattle.subset.proofs.tell_word.Goals as goal
-
-pub loop-place-init : goal.loop-place-init
-loop-place-init c =
-    let ys : List ℕ = map (λ b. c.args.base + b) (members (c.args.word ∷ [])) in (
-      refl,
-      ap (λ zs. ys ++ zs)
-          (drop_all (0 + length ys) _
-          (omega (arith, length-map (members (c.args.word ∷ [])) (λ b. c.args.base + b), length-take (c.args.told + c.ones.result - c.args.told) (drop c.args.told c.args.out.now), c.ones.ensures.count)))
-          ∙ append-nil ys,
-    )
 
 module _ (c : goal.After-place-1) where
   more : c.loop-place.place-index < length (members (c.args.word ∷ []))

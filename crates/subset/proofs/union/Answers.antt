@@ -1,5 +1,5 @@
 use Rattle.std.proofs.Common.{◌≡◌, ◌==◌, length, true, get_or, arith, w64, Fits, rules}
-use Rattle.subset.proofs.Blocks.{joining_none, joining_more, join_done}
+use Rattle.subset.proofs.Blocks.{joining_more, join_done}
 use Rattle.subset.proofs.Words.{done}
 use Rattle.subset.proofs.union.Goals as goal
 
