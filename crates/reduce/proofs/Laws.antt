@@ -1,19 +1,25 @@
 -- What a step is, case by case.
-use Rattle.std.proofs.Common.{◌≡◌, ℕ, ◌+◌, ◌-◌, ◌*◌, ◌<◌, ◌≤◌, Bool, true, false, cond, ◌&&◌, eqb, ltb, leb, List, length, get_or, Option, unwrap_or, sym, refl, ap, ◌∙◌, subst, ap₂, arith}
-use Rattle.std.proofs.lemmas.Bool.{and_parts, and_from, both_ways, lt-ltb, le-ltb, le-leb, lt-leb, eq-eqb, ne_eqb}
+use Rattle.std.proofs.Common.{◌≡◌, ℕ, ◌+◌, ◌-◌, ◌*◌, ◌<◌, ◌≤◌, Bool, true, false, cond, ◌&&◌, eqb, ltb, leb, List, ◌++◌, length, get_or, take, drop, Option, Some, None, Result, Ok, Err, unwrap_or, sym, refl, ap, ◌∙◌, subst, ap₂, append_assoc, length-append, arith}
+use Rattle.std.proofs.lemmas.List.{take-append-drop, drop-append-le}
+use Rattle.std.proofs.lemmas.Bool.{and_parts, and_from, both_ways, ltb-true, lt-ltb, le-ltb, le-leb, lt-leb}
 use Rattle.subset.specs.Parts.{all_parts}
-use Rattle.bisect.specs.Engine.{parts, Step}
+use Rattle.bisect.specs.Engine.{parts, said, Act, ask, left, sound, refused, Step}
 use Rattle.bisect.specs.Search.{Pass, pass, heard, answered}
 use Rattle.bisect.specs.Stand.{sought, placed, sane, given, cut_at}
 use Rattle.bisect.specs.declared.Search.{Search}
 use Rattle.bisect.proofs.Asking.{placed_true, true_placed}
 use Rattle.bisect.proofs.Right.{Ready, heard_ready, Sized}
-use Rattle.reduce.specs.State.{idle, first, seek, try, over, many, trial, go_on, begin}
-use Rattle.reduce.specs.Own.{header, held, standing, stored, bare, fine, fault, moved, goes, own}
-use Rattle.reduce.specs.Entry.{Does}
-use Rattle.reduce.specs.declared.Header.{Header}
+use Rattle.reduce.specs.State.{State, idle, first, seek, try, over, many, trial, go_on, next, begin}
+use Rattle.reduce.specs.Own.{Header, header, held, standing, stored, bare, fine, staged, stage, fault, moved, goes, own}
+use Rattle.reduce.specs.Entry.{ActTold, Does, Heard, event_of}
+use Rattle.reduce.specs.declared.Event.{Event}
+use Rattle.reduce.specs.declared.Event.TheVariants.{Said}
+use Rattle.reduce.specs.declared.Refusal.{Refusal}
+use Rattle.reduce.specs.declared.Refusal.TheVariants.{Torn, Unawaited}
+use Rattle.reduce.specs.declared.Stage.{Stage}
+use Rattle.reduce.specs.declared.Stage.TheVariants.{Idle, First, Seek, Trial}
 use Rattle.reduce.specs.declared.Told.{Told}
-use Rattle.reduce.proofs.Stored.{faultless, sane_from, modest_carries}
+use Rattle.reduce.proofs.Stored.{sane_from, modest_carries, step_said}
 
 pub does : (s t : Step) (r : Told) (m₁ out out₁ : List ℕ) → s ≡ t → Does t r m₁ out out₁ → Does s r m₁ out out₁
 does s t r m₁ out out₁ e d = subst (λ (v : Step). Does v r m₁ out out₁) (sym e) d
@@ -59,35 +65,6 @@ moved_pass n ks js p =
     elim (ltb 0 p.at.row) as (λ b. moved n ks (cond b (seek p) t) ≡ moved n js (cond b (seek p) t))
     [ true ↦ refl | false ↦ moved_trial n p.at.sure ks js p.held ]
 
--- ---- where it stands, by the phase
-pub standing_first : (h : Header) (s : Search) (ks : List ℕ) → h.phase ≡ 1 → standing h s ks ≡ first ks
-unfolding standing
-standing_first h s ks e = rw (eq-eqb h.phase 1 e)
-
-pub standing_seek : (h : Header) (s : Search) (ks : List ℕ) → h.phase ≡ 2 → standing h s ks ≡ seek (pass s ks)
-unfolding standing
-standing_seek h s ks e = rw e
-
--- where an answer is awaited, and neither about all nor in a pass, one is tried out
-pub standing_try : (m : List ℕ) → fault m ≡ 0 → (get_or m 0 0 ≡ 1 → ⊥) → (get_or m 0 0 ≡ 2 → ⊥) → standing (header m) (sought m) (held m) ≡ try (get_or m 4 0) (held m)
-unfolding fault standing
-standing_try m z d₁ d₂ =
-    let (e, p) = faultless (fine (header m) (sought m) (length (held m))) (eqb (get_or m 0 0) 0) z in
-    go (eqb (get_or m 0 0) 0) (eqb (get_or m 0 0) 1) (eqb (get_or m 0 0) 2) (eqb (get_or m 0 0) 3) e p (ne_eqb (get_or m 0 0) 1 d₁) (ne_eqb (get_or m 0 0) 2 d₂)
-  where
-    go : (a b c d : Bool)
-        → cond a (eqb (get_or m 1 0) 0 && (eqb (get_or m 4 0) 0 && bare (sought m)))
-        (cond b (eqb (get_or m 4 0) 0 && (bare (sought m) && (eqb (get_or m 1 0) (length (held m)) && leb (length (held m)) 4096)))
-        (cond c (eqb (get_or m 4 0) 0 && sane (sought m) (length (held m)) (get_or m 1 0))
-        (d && (bare (sought m) && (ltb (get_or m 4 0) (length (held m)) && (leb (length (held m)) (get_or m 1 0) && leb (get_or m 1 0) 4096)))))) ≡ true
-        → a ≡ false → b ≡ false → c ≡ false
-        → cond b (first (held m)) (cond c (seek (pass (sought m) (held m))) (cond d (try (get_or m 4 0) (held m)) idle)) ≡ try (get_or m 4 0) (held m)
-    go true b c d e p q r = absurd (both_ways _ p refl)
-    go false true c d e p q r = absurd (both_ways _ q refl)
-    go false false true d e p q r = absurd (both_ways _ r refl)
-    go false false false true e p q r = refl
-    go false false false false e p q r = absurd (both_ways _ refl e)
-
 -- ---- the numbers of a pass
 sane_wider : (s : Search) (k n : ℕ) → sane s k n ≡ true → sane s k 4096 ≡ true
 sane_wider s k n e =
@@ -95,12 +72,82 @@ sane_wider s k n e =
     let p = placed_true s k n x in
     and_from _ _ (true_placed s k 4096 (record { most = omega arith; ahead = p.ahead; inside = p.inside; fewer = p.fewer; old = omega (arith, p.old, p.most) })) y
 
--- where an answer in a pass is awaited, its numbers fit
-pub seek_sane : (m : List ℕ) → fault m ≡ 0 → get_or m 0 0 ≡ 2 → sane (sought m) (length (held m)) 4096 ≡ true
-unfolding fault
-seek_sane m z t =
-    let (e, p) = faultless (fine (header m) (sought m) (length (held m))) (eqb (get_or m 0 0) 0) z in
-    sane_wider (sought m) (length (held m)) (get_or m 1 0) (and_parts (eqb (get_or m 4 0) 0) _ (rw t at e)).1
+-- ---- where it stands, as the code reads it: what is at fault with an answer, where the machine over lists stands, and what the numbers are
+abbrev pub At : (ks : List ℕ) → Stage → Option Refusal → State → Type 0
+At ks Idle f t = f ≡ Some Unawaited
+At ks First f t = (f ≡ None) × (t ≡ first ks)
+At ks (Seek s) f t = (f ≡ None) × (t ≡ seek (pass s ks)) × (sane s (length ks) 4096 ≡ true)
+At ks (Trial i) f t = (f ≡ None) × (t ≡ try i ks) × (i < length ks)
+
+at_stage : (h : Header) (s : Search) (ks : List ℕ) (z o t u : Bool)
+    → cond z (eqb h.size 0 && (eqb h.index 0 && bare s))
+    (cond o (eqb h.index 0 && (bare s && (eqb h.size (length ks) && leb (length ks) 4096)))
+    (cond t (eqb h.index 0 && sane s (length ks) h.size)
+    (u && (bare s && (ltb h.index (length ks) && (leb (length ks) h.size && leb h.size 4096)))))) ≡ true
+    → At ks (cond z Idle (cond o First (cond t (Seek s) (Trial h.index)))) (cond z (Some Unawaited) None)
+    (cond o (first ks) (cond t (seek (pass s ks)) (cond u (try h.index ks) idle)))
+at_stage h s ks true o t u e = refl
+at_stage h s ks false true t u e = (refl, refl)
+at_stage h s ks false false true u e = (refl, refl, sane_wider s (length ks) h.size (and_parts (eqb h.index 0) _ e).1)
+at_stage h s ks false false false true e = (refl, refl, ltb-true _ _ (and_parts (ltb h.index (length ks)) _ (and_parts (bare s) _ e).1).0)
+at_stage h s ks false false false false e = absurd (both_ways _ refl e)
+
+-- a memory that is read is at that stage, one that isn't is torn
+pub read_at : (m : List ℕ) (r : Result Stage Refusal) (g₁ g : Stage) → r ≡ stage m → r ≡ Ok g₁ → g₁ ≡ g
+    → At (held m) g (fault m) (standing (header m) (sought m) (held m))
+unfolding stage fault standing
+read_at m r g₁ g e₁ e₂ e₃ = go (fine (header m) (sought m) (length (held m))) refl (sym e₁ ∙ e₂ ∙ ap Ok e₃)
+  where
+    h : Header
+    h = header m
+
+    go : (b : Bool) → fine h (sought m) (length (held m)) ≡ b → ◌≡◌ {A = Result Stage Refusal} (cond b (Ok (staged h (sought m))) (Err Torn)) (Ok g)
+        → At (held m) g (cond b (cond (eqb h.phase 0) (Some Unawaited) None) (Some Torn)) (standing h (sought m) (held m))
+    go true f e =
+        let same : staged h (sought m) ≡ g = cc in
+        rw same at (at_stage h (sought m) (held m) (eqb h.phase 0) (eqb h.phase 1) (eqb h.phase 2) (eqb h.phase 3) f)
+    go false f e = absurd (let z : ◌≡◌ {A = ℕ} 0 1 = cc in omega arith)
+
+pub read_torn : (m : List ℕ) (e : Refusal) → stage m ≡ Err e → fault m ≡ Some e
+unfolding stage fault
+read_torn m e h = go (fine (header m) (sought m) (length (held m))) h
+  where
+    go : (b : Bool) → ◌≡◌ {A = Result Stage Refusal} (cond b (Ok (staged (header m) (sought m))) (Err Torn)) (Err e)
+        → ◌≡◌ {A = Option Refusal} (cond b (cond (eqb (get_or m 0 0) 0) (Some Unawaited) None) (Some Torn)) (Some e)
+    go true h = absurd (let z : ◌≡◌ {A = ℕ} 0 1 = cc in omega arith)
+    go false h = let same : ◌≡◌ {A = Refusal} Torn e = cc in ap Some same
+
+-- an answer that is awaited, by where the machine stands
+pub hears_at : (m : List ℕ) (v : ℕ) (s : State) (b : Bool) (t : Told) (m₁ out out₁ : List ℕ) → length m ≡ 72 → fault m ≡ None
+    → standing (header m) (sought m) (held m) ≡ s → b ≡ eqb v 1 → Does (moved (get_or m 1 0) (held m) (next s b)) t m₁ out out₁
+    → Heard (fault m) m (Said v) out (Ok t) m₁ out₁
+hears_at m v s b t m₁ out out₁ h z e q d =
+    rw z (does (own.step m (said v)) _ t m₁ out out₁ (step_said m v h z ∙ ap₂ (λ (r : State) (c : Bool). moved (get_or m 1 0) (held m) (next r c)) e (sym q)) d)
+
+-- ---- what a step does with a row's first 4,096, it does with the row: what lies behind stays
+row_behind : (ks out ws : List ℕ) → length ws ≡ length (take 4096 out) → ws ≡ ks ++ drop (length ks) (take 4096 out)
+    → ws ++ drop 4096 out ≡ ks ++ drop (length ks) out
+row_behind ks out ws h e =
+    let n = length ks in
+    let room : n ≤ length (take 4096 out) = omega (arith, h, ap (λ (v : List ℕ). length v) e ∙ length-append ks (drop n (take 4096 out))) in
+    ap (λ (v : List ℕ). v ++ drop 4096 out) e ∙ append_assoc ks (drop n (take 4096 out)) (drop 4096 out)
+    ∙ ap (λ v. ks ++ v) (sym (drop-append-le n (take 4096 out) (drop 4096 out) room) ∙ ap (drop n) (take-append-drop 4096 out))
+
+row_same : (out ws : List ℕ) → ws ≡ take 4096 out → ws ++ drop 4096 out ≡ out
+row_same out ws e = ap (λ (v : List ℕ). v ++ drop 4096 out) e ∙ take-append-drop 4096 out
+
+told_behind : (a : Act) (t : Told) (out ws : List ℕ) → length ws ≡ length (take 4096 out) → ActTold a t (take 4096 out) ws → ActTold a t out (ws ++ drop 4096 out)
+unfolding ActTold
+told_behind (ask ks) t out ws h (e, d) = (e, row_behind ks out ws h d)
+told_behind (left ks) t out ws h (e, d) = (e, row_behind ks out ws h d)
+told_behind sound t out ws h (e, d) = (e, row_same out ws d)
+told_behind refused t out ws h (e, d) = (e, row_same out ws d)
+
+pub heard_behind : (o : Option Refusal) (m : List ℕ) (ev : Event) (out : List ℕ) (r : Result Told Refusal) (m₁ ws : List ℕ)
+    → length ws ≡ length (take 4096 out) → Heard o m ev (take 4096 out) r m₁ ws → Heard o m ev out r m₁ (ws ++ drop 4096 out)
+heard_behind None m ev out (Ok t) m₁ ws h (e, d) = (e, told_behind (own.step m (event_of ev)).act t out ws h d)
+heard_behind None m ev out (Err e) m₁ ws h d = absurd d
+heard_behind (Some f) m ev out r m₁ ws h (e, d, w) = (e, d, row_same out ws w)
 
 -- and after it something is open in the row, if it has members
 pub heard_placed : (s : Search) (ks : List ℕ) (b : Bool) → sane s (length ks) 4096 ≡ true → (p : Pass) → p ≡ answered (cut_at s (length ks)) (pass s ks) b
@@ -112,12 +159,12 @@ heard_placed s ks b e p q h =
     true_placed p.at (length p.held) 4096 (record { most = omega arith; ahead = r h; inside = z.high; fewer = z.fewer; old = z.old })
 
 -- what `hear` and `cut` answer of numbers that fit
-pub hear_after : (s s₀ : Search) (k k₀ : ℕ) (b : Bool) (o : Option Search) (r : Search) → s₀ ≡ s → k₀ ≡ k → sane s k 4096 ≡ true
-    → o ≡ given (sane s₀ k₀ 4096) (heard (cut_at s₀ k₀) s₀ b) → r ≡ unwrap_or o s₀ → r ≡ heard (cut_at s k) s b
-hear_after s s₀ k k₀ b o r p q z e₁ e₂ =
-    e₂ ∙ ap (λ v. unwrap_or v s₀) (e₁ ∙ ap₂ (λ t n. given (sane t n 4096) (heard (cut_at t n) t b)) p q ∙ ap (λ v. given v (heard (cut_at s k) s b)) z)
+pub hear_after : (s : Search) (k k₀ : ℕ) (b : Bool) (o : Option Search) (r : Search) → k₀ ≡ k → sane s k 4096 ≡ true
+    → o ≡ given (sane s k₀ 4096) (heard (cut_at s k₀) s b) → r ≡ unwrap_or o s → r ≡ heard (cut_at s k) s b
+hear_after s k k₀ b o r q z e₁ e₂ =
+    e₂ ∙ ap (λ v. unwrap_or v s) (e₁ ∙ ap (λ n. given (sane s n 4096) (heard (cut_at s n) s b)) q ∙ ap (λ v. given v (heard (cut_at s k) s b)) z)
 
-pub cut_after : (s s₀ : Search) (k k₀ d : ℕ) (o : Option ℕ) (r : ℕ) → s₀ ≡ s → k₀ ≡ k → sane s k 4096 ≡ true
-    → o ≡ given (placed s₀ k₀ 4096) (cut_at s₀ k₀) → r ≡ unwrap_or o d → r ≡ cut_at s k
-cut_after s s₀ k k₀ d o r p q z e₁ e₂ =
-    e₂ ∙ ap (λ v. unwrap_or v d) (e₁ ∙ ap₂ (λ t n. given (placed t n 4096) (cut_at t n)) p q ∙ ap (λ v. given v (cut_at s k)) (and_parts (placed s k 4096) _ z).0)
+pub cut_after : (s : Search) (k k₀ d : ℕ) (o : Option ℕ) (r : ℕ) → k₀ ≡ k → sane s k 4096 ≡ true
+    → o ≡ given (placed s k₀ 4096) (cut_at s k₀) → r ≡ unwrap_or o d → r ≡ cut_at s k
+cut_after s k k₀ d o r q z e₁ e₂ =
+    e₂ ∙ ap (λ v. unwrap_or v d) (e₁ ∙ ap (λ n. given (placed s n 4096) (cut_at s n)) q ∙ ap (λ v. given v (cut_at s k)) (and_parts (placed s k 4096) _ z).0)

@@ -3,38 +3,32 @@ use Rattle.std.proofs.Common.{◌≡◌, ℕ, suc, ◌+◌, ◌*◌, ◌^◌, �
 use borrow.Rule.Slice.PartMut.{put_mid}
 use Rattle.std.proofs.lemmas.List.{take_all}
 use Rattle.std.proofs.lemmas.Slice.{between-put_mid}
-use Rattle.subset.specs.Row.{members, cut_out}
+use Rattle.subset.specs.Row.{members, cut_out, words_of}
 use Rattle.subset.specs.Says.{After, Holds}
 use Rattle.subset.proofs.Lists.{row_from, without_at}
 use Rattle.subset.proofs.Words.{words_members, some_of_members}
 use Rattle.bisect.specs.Stand.{noted}
 use Rattle.bisect.specs.declared.Search.{Search}
-use Rattle.reduce.specs.Own.{row, headed, held, kept}
+use Rattle.reduce.specs.Own.{Header, row, headed, held, kept}
 use Rattle.reduce.specs.State.{less}
-use Rattle.reduce.specs.declared.Header.{Header}
-use Rattle.reduce.proofs.Stored.{row_length}
 
 pub row_put : (m ys : List ℕ) → length m ≡ 72 → length ys ≡ 64 → row (put_mid 8 64 m ys) ≡ ys
 row_put m ys h k = between-put_mid 8 64 m ys 72 (omega arith) k
 
--- the eight writes of a header
-pub header_put : (h : Header) (s : Search) (m : List ℕ) → length m ≡ 72
-    → noted s (set (set (set m 0 h.phase) 1 h.size) 4 h.index) ≡ headed h s (row m)
-header_put h s [] l = absurd (omega arith)
-header_put h s (a ∷ []) l = absurd (omega arith)
-header_put h s (a ∷ b ∷ []) l = absurd (omega arith)
-header_put h s (a ∷ b ∷ c ∷ []) l = absurd (omega arith)
-header_put h s (a ∷ b ∷ c ∷ d ∷ []) l = absurd (omega arith)
-header_put h s (a ∷ b ∷ c ∷ d ∷ e ∷ []) l = absurd (omega arith)
-header_put h s (a ∷ b ∷ c ∷ d ∷ e ∷ f ∷ []) l = absurd (omega arith)
-header_put h s (a ∷ b ∷ c ∷ d ∷ e ∷ f ∷ g ∷ []) l = absurd (omega arith)
-header_put h s (a ∷ b ∷ c ∷ d ∷ e ∷ f ∷ g ∷ i ∷ ws) l = ap (headed h s) (sym (take_all 64 ws (omega arith)))
-
--- words of 64 bits are those of what they tell
-pub headed_kept : (h : Header) (s : Search) (m m₁ : List ℕ) → length m ≡ 72 → m₁ ≡ headed h s (row m) → ((i : ℕ) → get_or m₁ i 0 < 2 ^ 64) → m₁ ≡ kept h s (held m)
-headed_kept h s m m₁ l e small =
-    e ∙ ap (headed h s) (sym (words_members (row m) 64 (row_length m l) (λ i.
-    subst (λ (v : List ℕ). get_or v (suc (suc (suc (suc (suc (suc (suc (suc i)))))))) 0 < 2 ^ 64) e (small (suc (suc (suc (suc (suc (suc (suc (suc i))))))))))))
+-- the eight writes of a header; words of 64 bits are those of what they tell
+pub header_kept : (h : Header) (s : Search) (m : List ℕ) → length m ≡ 72 → ((i : ℕ) → get_or m i 0 < 2 ^ 64)
+    → noted s (set (set (set m 0 h.phase) 1 h.size) 4 h.index) ≡ kept h s (held m)
+header_kept h s [] l small = absurd (omega arith)
+header_kept h s (a ∷ []) l small = absurd (omega arith)
+header_kept h s (a ∷ b ∷ []) l small = absurd (omega arith)
+header_kept h s (a ∷ b ∷ c ∷ []) l small = absurd (omega arith)
+header_kept h s (a ∷ b ∷ c ∷ d ∷ []) l small = absurd (omega arith)
+header_kept h s (a ∷ b ∷ c ∷ d ∷ e ∷ []) l small = absurd (omega arith)
+header_kept h s (a ∷ b ∷ c ∷ d ∷ e ∷ f ∷ []) l small = absurd (omega arith)
+header_kept h s (a ∷ b ∷ c ∷ d ∷ e ∷ f ∷ g ∷ []) l small = absurd (omega arith)
+header_kept h s (a ∷ b ∷ c ∷ d ∷ e ∷ f ∷ g ∷ i ∷ ws) l small =
+    ap (headed h s) (sym (words_members ws 64 (omega arith) (λ j. small (suc (suc (suc (suc (suc (suc (suc (suc j)))))))))))
+    ∙ ap (λ v. headed h s (words_of 64 (members v))) (sym (take_all 64 ws (omega arith)))
 
 -- ---- what the functions on rows say of 64 words
 pub done : (r : Bool) (ws ks ws₁ : List ℕ) → r ≡ true → After r ws ks ws₁ → Holds ws₁ (length ws) ks

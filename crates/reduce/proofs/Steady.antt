@@ -1,5 +1,5 @@
 -- The memory keeps its length, and its numbers stay within 64 bits.
-use Rattle.std.proofs.Common.{◌≡◌, ℕ, suc, ◌≤◌, true, eqb, ltb, List, length, get_or, sym, refl, ◌∙◌, arith}
+use Rattle.std.proofs.Common.{◌≡◌, ℕ, suc, ◌≤◌, true, eqb, ltb, List, length, get_or, Option, Some, None, sym, refl, ◌∙◌, arith}
 use Rattle.std.proofs.lemmas.Bool.{and_from, eqb-true, lt-ltb, cond_both}
 use Rattle.subset.specs.Laws.{WordsSmall, all_small}
 use Rattle.subset.proofs.Stands.{words_small}
@@ -7,8 +7,8 @@ use Rattle.bisect.specs.Engine.{Event, parts, said, refused, Steady}
 use Rattle.bisect.specs.declared.Search.{Search}
 use Rattle.bisect.specs.Stand.{sought}
 use Rattle.reduce.specs.State.{State, idle, first, seek, try, over, calm, many, next, begin}
-use Rattle.reduce.specs.Own.{header, held, kept, idle_at, first_at, seek_at, try_at, nowhere, standing, stored, fault, doing, moved, goes, own}
-use Rattle.reduce.specs.declared.Header.{Header}
+use Rattle.reduce.specs.Own.{Header, header, held, kept, idle_at, first_at, seek_at, try_at, nowhere, standing, stored, fault, faultless, doing, moved, goes, own}
+use Rattle.reduce.specs.declared.Refusal.{Refusal}
 use Rattle.reduce.proofs.Stored.{Fits, fits_next, fits_begin, fits_held, Modest, modest_carries, dear, length_kept}
 
 -- a memory of 72 small numbers
@@ -66,12 +66,17 @@ well_keeps m m₁ h w = (w.0 ∙ sym h, λ g. w.1)
 goes_keeps : (m : List ℕ) (ev : Event) → length m ≡ 72 → Keeps m (goes m ev).memory
 unfolding goes
 goes_keeps m (parts n) h = well_keeps m _ h (stored_well n (held m) (begin n) (fits_begin (Modest n (suc dear)) n))
-goes_keeps m (said v) h =
-    let n = get_or m 1 0 in
-    let s = standing (header m) (sought m) (held m) in
-    cond_both (eqb (fault m) 0) (moved n (held m) (next s (eqb v 1))) (doing m refused) (λ t. Keeps m t.memory)
-    (λ e. well_keeps m _ h (stored_well n (held m) _ (fits_next n _ _ (λ l. modest_carries n dear) s (eqb v 1) (fits_held m h (eqb-true _ _ e)))))
-    (λ e. (refl, λ g. g))
+goes_keeps m (said v) h = go (fault m) refl
+  where
+    n : ℕ
+    n = get_or m 1 0
+
+    s : State
+    s = standing (header m) (sought m) (held m)
+
+    go : (o : Option Refusal) → fault m ≡ o → Keeps m (faultless o (moved n (held m) (next s (eqb v 1))) (doing m refused)).memory
+    go None e = well_keeps m _ h (stored_well n (held m) _ (fits_next n _ _ (λ l. modest_carries n dear) s (eqb v 1) (fits_held m h e)))
+    go (Some f) e = (refl, λ g. g)
 
 pub steady : Steady own
 unfolding Steady own

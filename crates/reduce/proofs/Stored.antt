@@ -1,5 +1,5 @@
 -- The memory holds where the machine stands, and the step over it does what the machine does.
-use Rattle.std.proofs.Common.{◌≡◌, ℕ, suc, ◌+◌, ◌-◌, ◌*◌, ◌<◌, ◌≤◌, Bool, true, false, cond, ◌&&◌, eqb, ltb, leb, List, length, get_or, drop, sym, refl, ap, ◌∙◌, arith, length-drop}
+use Rattle.std.proofs.Common.{◌≡◌, ℕ, suc, ◌+◌, ◌-◌, ◌*◌, ◌<◌, ◌≤◌, Bool, true, false, cond, ◌&&◌, eqb, ltb, leb, List, length, get_or, drop, Option, Some, None, sym, refl, ap, ◌∙◌, arith, length-drop}
 use Rattle.std.proofs.lemmas.List.{take_all, length-take-le}
 use Rattle.std.proofs.lemmas.Bool.{and_parts, and_from, both_ways, ltb-true, leb-true, eqb-true, lt-ltb, le-leb, eq-eqb, cond_both}
 use Rattle.subset.specs.Parts.{all_parts, some_of}
@@ -19,8 +19,9 @@ use Rattle.bisect.proofs.Keep.{keep_some, length_keep}
 use Rattle.bisect.proofs.Paid.{Paid, paid_fresh, paid_answered}
 use Rattle.bisect.proofs.Right.{Ready, heard_ready, heard_spent, Sized, sized_fresh, sized_found, sized_failed, sized_stood, answers}
 use Rattle.reduce.specs.State.{State, idle, first, seek, try, over, calm, many, less, trial, go_on, next, next_by, begin, act_of, act_by, reducing}
-use Rattle.reduce.specs.Own.{header, row, held, kept, first_at, seek_at, try_at, nowhere, standing, stored, bare, fine, fault, moved, goes, own}
-use Rattle.reduce.specs.declared.Header.{Header}
+use Rattle.reduce.specs.Own.{Header, header, row, held, kept, first_at, seek_at, try_at, nowhere, standing, stored, bare, fine, fault, moved, goes, own}
+use Rattle.reduce.specs.declared.Refusal.{Refusal}
+use Rattle.reduce.specs.declared.Refusal.TheVariants.{Torn, Unawaited}
 use Rattle.reduce.proofs.Stays.{less_shorter}
 
 -- ---- what a run of n parts holds where it asks, with E of a pass
@@ -130,10 +131,10 @@ sane_to n p m l t =
     (le-leb p.at.spent (13 * (length p.held - p.at.row + 1)) (omega (arith, t.paid))))
 
 -- ---- what a memory holds that awaits an answer
-pub faultless : (a b : Bool) → ◌≡◌ {A = ℕ} (cond a (cond b 2 0) 1) 0 → (a ≡ true) × (b ≡ false)
-faultless true true h = absurd (omega (arith, h))
-faultless true false h = (refl, refl)
-faultless false b h = absurd (omega (arith, h))
+pub no_fault : (a b : Bool) → ◌≡◌ {A = Option Refusal} (cond a (cond b (Some Unawaited) None) (Some Torn)) None → (a ≡ true) × (b ≡ false)
+no_fault true true h = cc
+no_fault true false h = (refl, refl)
+no_fault false b h = cc
 
 -- the most that a pass may have spent
 abbrev pub dear : ℕ
@@ -168,10 +169,10 @@ fine_fits h s ks sm = go (eqb h.phase 0) (eqb h.phase 1) (eqb h.phase 2) (eqb h.
 pub row_length : (m : List ℕ) → length m ≡ 72 → length (row m) ≡ 64
 row_length m h = length-take-le 64 (drop 8 m) (simp length-drop (omega arith))
 
-pub fits_held : (m : List ℕ) → length m ≡ 72 → fault m ≡ 0 → Fits (Modest (get_or m 1 0) dear) (get_or m 1 0) (standing (header m) (sought m) (held m))
+pub fits_held : (m : List ℕ) → length m ≡ 72 → fault m ≡ None → Fits (Modest (get_or m 1 0) dear) (get_or m 1 0) (standing (header m) (sought m) (held m))
 unfolding fault
 fits_held m h z =
-    let (e, p) = faultless (fine (header m) (sought m) (length (held m))) (eqb (get_or m 0 0) 0) z in
+    let (e, p) = no_fault (fine (header m) (sought m) (length (held m))) (eqb (get_or m 0 0) 0) z in
     fine_fits (header m) (sought m) (held m) (some_of_members (row m) 64 (row_length m h)) e p
 
 -- ---- what is stored is told back
@@ -182,7 +183,7 @@ pub length_kept : (h : Header) (s : Search) (ks : List ℕ) → length (kept h s
 length_kept h s ks = omega (arith, length_words 64 ks)
 
 abbrev pub Stands : List ℕ → State → Type 0
-Stands m s = (length m ≡ 72) × (fault m ≡ 0) × (standing (header m) (sought m) (held m) ≡ s) × Fits (Paid (get_or m 1 0)) (get_or m 1 0) s
+Stands m s = (length m ≡ 72) × (fault m ≡ None) × (standing (header m) (sought m) (held m) ≡ s) × Fits (Paid (get_or m 1 0)) (get_or m 1 0) s
 
 kept_stands : (h : Header) (s : Search) (ks : List ℕ) → some_of 4096 ks ≡ true → fine h s (length ks) ≡ true → eqb h.phase 0 ≡ false
     → Fits (Paid h.size) h.size (standing h s ks) → Stands (kept h s ks) (standing h s ks)
@@ -204,7 +205,7 @@ stored_stands n js calm w a = absurd (both_ways _ refl a)
 stored_stands n js many w a = absurd (both_ways _ refl a)
 
 -- ---- the step over memory is the machine's
-pub step_said : (m : List ℕ) (v : ℕ) → length m ≡ 72 → fault m ≡ 0
+pub step_said : (m : List ℕ) (v : ℕ) → length m ≡ 72 → fault m ≡ None
     → own.step m (said v) ≡ moved (get_or m 1 0) (held m) (next (standing (header m) (sought m) (held m)) (eqb v 1))
 unfolding own goes
 step_said m v h z = rw (h, z)

@@ -1,15 +1,23 @@
 -- The machine over its memory of 72 numbers: eight that say where it stands, and the 64 words of the subset it holds. Assumes nothing: these are definitions.
-use Rattle.std.specs.Prelude.{ℕ, Bool, cond, ◌&&◌, List, ◌∷◌, length, take, drop, replicate, ◌==◌, nat_le, nat_lt, slice_index}
+use Rattle.std.specs.Prelude.{ℕ, Bool, cond, ◌&&◌, List, ◌∷◌, length, take, drop, replicate, ◌==◌, Some, None, Option, Ok, Err, Result, nat_le, nat_lt, slice_index}
 use Rattle.subset.specs.Row.{members, words_of}
 use Rattle.bisect.specs.Engine.{Event, parts, said, Act, refused, Step, Engine}
 use Rattle.bisect.specs.Search.{place, pass}
 use Rattle.bisect.specs.Stand.{sought, sane}
 use Rattle.bisect.specs.declared.Search.{Search}
 use Rattle.reduce.specs.State.{State, idle, first, seek, try, over, calm, many, next, begin, act_of}
-use Rattle.reduce.specs.declared.Header.{Header}
+use Rattle.reduce.specs.declared.Refusal.{Refusal}
+use Rattle.reduce.specs.declared.Refusal.TheVariants.{Torn, Unawaited}
+use Rattle.reduce.specs.declared.Stage.{Stage}
+use Rattle.reduce.specs.declared.Stage.TheVariants.{Idle, First, Seek, Trial}
 
 -- ---- what a memory holds: the phase at 0, the number of parts at 1, the index of the part that is tried out at 4; where a pass stands at 2, 3, 5, 6 and 7;
 -- and the words from 8 on
+pub record Header : Type 0 where
+  pub phase : ℕ
+  pub size : ℕ
+  pub index : ℕ
+
 abbrev pub header : List ℕ → Header
 header m = record { phase = slice_index m 0; size = slice_index m 1; index = slice_index m 4 }
 
@@ -69,9 +77,22 @@ fine h s k =
     (cond (h.phase == 2) (h.index == 0 && sane s k h.size)
     (h.phase == 3 && (bare s && (nat_lt h.index k && (nat_le k h.size && nat_le h.size 4096))))))
 
--- how it stands with an answer: 0 it is awaited, 1 no run leaves such numbers, 2 nothing was asked
-unfoldable pub fault : List ℕ → ℕ
-fault m = cond (fine (header m) (sought m) (length (held m))) (cond (slice_index m 0 == 0) 2 0) 1
+-- where the machine stands, as the code has it, and beside the subset that is held
+abbrev pub staged : Header → Search → Stage
+staged h s = cond (h.phase == 0) Idle (cond (h.phase == 1) First (cond (h.phase == 2) (Seek s) (Trial h.index)))
+
+unfoldable pub stage : List ℕ → Result Stage Refusal
+stage m = cond (fine (header m) (sought m) (length (held m))) (Ok (staged (header m) (sought m))) (Err Torn)
+
+abbrev pub stands : Stage → List ℕ → State
+stands Idle ks = idle
+stands First ks = first ks
+stands (Seek s) ks = seek (pass s ks)
+stands (Trial i) ks = try i ks
+
+-- what is at fault with an answer: nothing, or no run leaves such numbers, or nothing was asked
+unfoldable pub fault : List ℕ → Option Refusal
+fault m = cond (fine (header m) (sought m) (length (held m))) (cond (slice_index m 0 == 0) (Some Unawaited) None) (Some Torn)
 
 -- ---- a step, for every memory and every event; what is no memory of the machine's stays as it is
 abbrev pub doing : List ℕ → Act → Step
@@ -80,10 +101,14 @@ doing m a = record { memory = m; act = a }
 abbrev pub moved : (n : ℕ) (ks : List ℕ) → State → Step
 moved n ks s = doing (stored n ks s) (act_of s)
 
+-- where nothing is at fault, the first
+abbrev pub faultless : Option Refusal → (s t : Step) → Step
+faultless None s t = s
+faultless (Some e) s t = t
+
 unfoldable pub goes : List ℕ → Event → Step
 goes m (parts n) = moved n (held m) (begin n)
-goes m (said v) =
-    cond (fault m == 0) (moved (slice_index m 1) (held m) (next (standing (header m) (sought m) (held m)) (v == 1))) (doing m refused)
+goes m (said v) = faultless (fault m) (moved (slice_index m 1) (held m) (next (standing (header m) (sought m) (held m)) (v == 1))) (doing m refused)
 
 unfoldable pub own : Engine
 own = record { start = replicate 72 0; step = λ m ev. cond (length m == 72) (goes m ev) (doing m refused) }

@@ -1,16 +1,16 @@
 // The reducer: one step over 72 lent numbers, and what it promises for every judge.
 #![tactic(auto)]
 
-ghost use Rattle.std.specs.Prelude.{◌≡◌, ◌<◌, ◌≤◌, true, ◌++◌, length, drop};
+ghost use Rattle.std.specs.Prelude.{◌≡◌, ◌<◌, ◌≤◌, true, ◌++◌, length, drop, if◌then◌else◌};
 ghost use Rattle.bisect.specs.Engine.{parts};
 ghost use Rattle.bisect.specs.Promise.{Sharp, Whole};
 ghost use Rattle.bisect.specs.Search.{answered, fresh, heard, pass};
 ghost use Rattle.bisect.specs.Stand.{asked, cut_at, placed, sane, sought};
 ghost use Rattle.subset.specs.Parts.{all_parts};
 ghost use Rattle.subset.specs.Row.{cut_out, members};
-ghost use Rattle.reduce.specs.Entry.{Does, Heard, StepSays, fits};
+ghost use Rattle.reduce.specs.Entry.{Does, Heard, Reacts, StepSays, event, fault_of, fits};
 ghost use Rattle.reduce.specs.Examples.{EachHolds, Examples};
-ghost use Rattle.reduce.specs.Own.{bare, fault, fine, headed, header, held, kept, moved, nowhere, own, row, standing};
+ghost use Rattle.reduce.specs.Own.{bare, fault, held, moved, nowhere, own, stage, stands, stored};
 ghost use Rattle.reduce.specs.Start.{FromAny, FromCuts, NestedTrial};
 ghost use Rattle.reduce.specs.State.{go_on, less, next, trial};
 
@@ -21,6 +21,11 @@ const MOST: u64 = 4096;
 
 const LENGTH: usize = 72;
 
+type Memory = [u64; LENGTH];
+
+// The beginning of the lent row, with room for all parts.
+type Row = [u64; MOST as usize];
+
 // Where the memory holds what; a pass stands in 2, 3, 5, 6 and 7, the words of the subset from 8 on.
 const PHASE: usize = 0;
 
@@ -28,7 +33,9 @@ const SIZE: usize = 1;
 
 const INDEX: usize = 4;
 
-// Nothing is asked; it asked of all; a pass goes on; it asked of all but one.
+const WORDS: usize = 8;
+
+// The phases as the memory has them.
 const IDLE: u64 = 0;
 
 const FIRST: u64 = 1;
@@ -37,8 +44,17 @@ const SEEK: u64 = 2;
 
 const TRIAL: u64 = 3;
 
+// What a step is told.
+#[derive(Clone, Copy, Debug, PartialEq, Eq)]
+pub enum Event {
+    // How many parts there are.
+    Parts(u64),
+    // What the judge said of what was asked last.
+    Said(u64),
+}
+
 // What a step tells.
-#[derive(Clone, Copy)]
+#[derive(Clone, Copy, Debug, PartialEq, Eq)]
 pub enum Told {
     // Ask of so many: they are in the lent row.
     Ask(u64),
@@ -47,18 +63,45 @@ pub enum Told {
     // All together don't fail.
     Sound,
     TooMany,
-    // Refused: 0 the memory, the kind or the row, 1 such a header, 2 an answer to nothing.
-    No(u64),
 }
 
-// What the memory holds beside the words and where a pass stands.
+// Why a step is refused.
+#[derive(Clone, Copy, Debug, PartialEq, Eq)]
+pub enum Refusal {
+    // The memory hasn't 72 numbers, the row is shorter than 4,096, or there is no such kind of event.
+    Unfit,
+    // No run leaves such a memory.
+    Torn,
+    // Nothing was asked.
+    Unawaited,
+}
+
+// By its kind: 0 tells how many parts there are, 1 what the judge said.
+impl TryFrom<(u64, u64)> for Event {
+    type Error = Refusal;
+
+    ghost try_from_gives = { λ told r. r ≡ event told.0 told.1 };
+
+    fn try_from((kind, number): (u64, u64)) -> Result<Event, Refusal> {
+        match kind {
+            0 => Ok(Event::Parts(number)),
+            1 => Ok(Event::Said(number)),
+            _ => Err(Refusal::Unfit),
+        }
+    }
+}
+
+// Where the machine stands, beside how many parts there are and the subset that it holds.
 #[derive(Clone, Copy)]
-pub struct Header {
-    phase: u64,
-    // How many parts there are.
-    size: u64,
-    // Which member is tried out.
-    index: u64,
+enum Stage {
+    // Nothing is asked.
+    Idle,
+    // It asked of all.
+    First,
+    // A pass goes on.
+    Seek(Search),
+    // It asked of all but the member at this index.
+    Trial(u64),
 }
 
 // Where a pass stands while none goes on.
@@ -74,346 +117,219 @@ fn bare(at: Search) -> bool
     at.lo == 0 && at.row == 0 && at.begun == 0 && at.spent == 0 && at.sure == 0
 }
 
-impl Header {
-    fn idle() -> Header
-        ensures { result ≡ record { phase = 0; size = 0; index = 0 } }
+impl Stage {
+    // Refused where no run leaves such numbers beside the words.
+    #[tactic(auto, unfolding(crate::specs::Own::stage))]
+    fn read(memory: &Memory) -> Result<Stage, Refusal>
+        ensures { result ≡ stage memory.now }
     {
-        Header {
-            phase: IDLE,
-            size: 0,
-            index: 0,
+        let at = Search::read(memory).unwrap_or(nowhere());
+        let size = memory[SIZE];
+        let index = memory[INDEX];
+        let count = count(memory);
+        match memory[PHASE] {
+            IDLE if size == 0 && index == 0 && bare(at) => Ok(Stage::Idle),
+            FIRST if index == 0 && bare(at) && size == count && count <= MOST => Ok(Stage::First),
+            SEEK if index == 0 && at.is_sane(count, size) => Ok(Stage::Seek(at)),
+            TRIAL if bare(at) && index < count && count <= size && size <= MOST => {
+                Ok(Stage::Trial(index))
+            }
+            _ => Err(Refusal::Torn),
         }
     }
 
-    fn read(memory: &[u64]) -> Header
-        requires { length memory.now ≡ 72 }
-        ensures { result ≡ header memory.now }
+    // The first eight numbers; the words stay.
+    fn write(self, size: u64, memory: &mut Memory)
+        ensures { memory.new ≡ stored size (held memory.old) (stands self (held memory.old)) }
     {
-        Header {
-            phase: memory[PHASE],
-            size: memory[SIZE],
-            index: memory[INDEX],
-        }
-    }
-
-    // The eight numbers; the words stay.
-    fn put(self, at: Search, memory: &mut [u64])
-        requires { length memory.old ≡ 72 }
-        ensures { memory.new ≡ headed self at (row memory.old) }
-    {
-        memory[PHASE] = self.phase;
-        memory[SIZE] = self.size;
-        memory[INDEX] = self.index;
+        let (phase, size, index, at) = match self {
+            Stage::Idle => (IDLE, 0, 0, nowhere()),
+            Stage::First => (FIRST, size, 0, nowhere()),
+            Stage::Seek(at) => (SEEK, size, 0, at),
+            Stage::Trial(index) => (TRIAL, size, index, nowhere()),
+        };
+        memory[PHASE] = phase;
+        memory[SIZE] = size;
+        memory[INDEX] = index;
         at.write(memory);
     }
-
-    // The same: words that stay are those of what they tell.
-    fn write(self, at: Search, memory: &mut [u64])
-        requires { length memory.old ≡ 72 }
-        ensures { memory.new ≡ kept self at (held memory.old) }
-    {
-        self.put(at, memory);
-    }
-
-    // With no pass going on.
-    fn write_alone(self, memory: &mut [u64])
-        requires { length memory.old ≡ 72 }
-        ensures { memory.new ≡ kept self nowhere (held memory.old) }
-    {
-        self.write(nowhere(), memory);
-    }
-
-    // Whether a run leaves this beside so many members.
-    fn fine(self, at: Search, count: u64) -> bool
-        ensures { result ≡ fine self at count }
-    {
-        if self.phase == IDLE {
-            return self.size == 0 && self.index == 0 && bare(at);
-        }
-        if self.phase == FIRST {
-            return self.index == 0 && bare(at) && self.size == count && count <= MOST;
-        }
-        if self.phase == SEEK {
-            return self.index == 0 && at.is_sane(count, self.size);
-        }
-        self.phase == TRIAL
-            && bare(at)
-            && self.index < count
-            && count <= self.size
-            && self.size <= MOST
-    }
 }
 
-// Where a pass stands, read from a memory of its length.
-fn read_pass(memory: &[u64]) -> Search
-    requires { length memory.now ≡ 72 }
-    ensures { result ≡ sought memory.now }
-{
-    Search::read(memory).unwrap_or(nowhere())
-}
-
-fn count(memory: &[u64]) -> u64
-    requires { length memory.now ≡ 72 }
+fn count(memory: &Memory) -> u64
     ensures { result ≡ length (held memory.now) }
 {
-    subset::count(&memory[8..72]).unwrap_or(0)
+    subset::count(&memory[WORDS..LENGTH]).unwrap_or(0)
 }
 
-// Writes the members of 64 words into the lent row, and says how many they are.
-fn tell_words(words: &[u64], out: &mut [u64]) -> u64
-    requires long { length words.now ≡ 64 }
-    requires room { 4096 ≤ length out.old }
-    ensures count { result ≡ length (members words.now) }
-    ensures told { out.new ≡ members words.now ++ drop (length (members words.now)) out.old }
-{
-    subset::tell(words, out).unwrap_or(0)
-}
-
-// Takes out the members whose rank is in from..to.
-fn take_ranks(words: &mut [u64], from: u64, to: u64)
-    requires long { length words.old ≡ 64 }
-    requires order { from ≤ to }
-    ensures { members words.new ≡ cut_out from to (members words.old) }
-{
-    subset::cut(words, from, to);
-}
-
-// Takes out the member at a rank.
-fn take_rank(words: &mut [u64], rank: u64)
-    requires long { length words.old ≡ 64 }
-    requires there { rank < length (members words.old) }
-    ensures { members words.new ≡ less rank (members words.old) }
-{
-    take_ranks(words, rank, rank + 1);
-}
-
-fn tell(memory: &[u64], out: &mut [u64]) -> u64
-    requires long { length memory.now ≡ 72 }
-    requires room { 4096 ≤ length out.old }
+fn tell(memory: &Memory, out: &mut Row) -> u64
     ensures count { result ≡ length (held memory.now) }
     ensures told { out.new ≡ held memory.now ++ drop (length (held memory.now)) out.old }
 {
-    tell_words(&memory[8..72], out)
+    subset::tell(&memory[WORDS..LENGTH], out).unwrap_or(0)
 }
 
 // The same without the member at a rank, which stays in the memory.
-fn tell_less(memory: &[u64], rank: u64, out: &mut [u64]) -> u64
-    requires long { length memory.now ≡ 72 }
-    requires there { rank < length (held memory.now) }
-    requires room { 4096 ≤ length out.old }
+fn tell_less(memory: &Memory, rank: u64, out: &mut Row) -> u64
+    requires { rank < length (held memory.now) }
     ensures count { result ≡ length (less rank (held memory.now)) }
     ensures told { out.new ≡ less rank (held memory.now) ++ drop (length (less rank (held memory.now))) out.old }
 {
-    let mut words = [0; 64];
-    words.copy_from_slice(&memory[8..72]);
-    take_rank(&mut words, rank);
-    tell_words(&words, out)
+    let mut copy = *memory;
+    leave(&mut copy, rank);
+    tell(&copy, out)
 }
 
 // The question at the cut.
-fn tell_cut(memory: &[u64], at: Search, out: &mut [u64]) -> u64
-    requires long { length memory.now ≡ 72 }
-    requires ahead { placed at (length (held memory.now)) 4096 ≡ true }
-    requires room { 4096 ≤ length out.old }
+fn tell_cut(memory: &Memory, at: Search, out: &mut Row) -> u64
+    requires { placed at (length (held memory.now)) 4096 ≡ true }
     ensures count { result ≡ length (asked at (held memory.now)) }
     ensures told { out.new ≡ asked at (held memory.now) ++ drop (length (asked at (held memory.now))) out.old }
 {
-    bisect::question(&memory[8..72], at, out).unwrap_or(0)
+    bisect::question(&memory[WORDS..LENGTH], at, out).unwrap_or(0)
 }
 
-fn fill(memory: &mut [u64], n: u64)
-    requires long { length memory.old ≡ 72 }
-    requires few { n ≤ 4096 }
+fn fill(memory: &mut Memory, n: u64)
+    requires { n ≤ 4096 }
     ensures { held memory.new ≡ all_parts n }
 {
-    subset::fill(&mut memory[8..72], n);
+    subset::fill(&mut memory[WORDS..LENGTH], n);
 }
 
-fn leave(memory: &mut [u64], rank: u64)
-    requires long { length memory.old ≡ 72 }
-    requires there { rank < length (held memory.old) }
-    ensures { held memory.new ≡ less rank (held memory.old) }
-{
-    take_rank(&mut memory[8..72], rank);
-}
-
-fn leave_between(memory: &mut [u64], from: u64, to: u64)
-    requires long { length memory.old ≡ 72 }
-    requires order { from ≤ to }
+// Takes out the members whose rank is in from..to.
+fn leave_between(memory: &mut Memory, from: u64, to: u64)
+    requires { from ≤ to }
     ensures { held memory.new ≡ cut_out from to (held memory.old) }
 {
-    take_ranks(&mut memory[8..72], from, to);
+    subset::cut(&mut memory[WORDS..LENGTH], from, to);
+}
+
+fn leave(memory: &mut Memory, rank: u64)
+    requires { rank < length (held memory.old) }
+    ensures { held memory.new ≡ less rank (held memory.old) }
+{
+    leave_between(memory, rank, rank + 1);
 }
 
 // Asks without the member at an index; past the last, all are needed.
-fn tries(memory: &mut [u64], size: u64, index: u64, out: &mut [u64]) -> Told
-    requires long { length memory.old ≡ 72 }
-    requires room { 4096 ≤ length out.old }
+fn tries(memory: &mut Memory, size: u64, index: u64, out: &mut Row) -> Told
     ensures { Does (moved size (held memory.old) (trial index (held memory.old))) result memory.new out.old out.new }
 {
     if index < count(memory) {
         let told = tell_less(memory, index, out);
-        let header = Header {
-            phase: TRIAL,
-            size,
-            index,
-        };
-        header.write_alone(memory);
+        Stage::Trial(index).write(size, memory);
         Told::Ask(told)
     } else {
         let told = tell(memory, out);
-        Header::idle().write_alone(memory);
+        Stage::Idle.write(size, memory);
         Told::Rest(told)
     }
 }
 
 // Asks at the cut of a row in which something is open; where the row is empty, on to the trials.
-fn seeks(memory: &mut [u64], size: u64, at: Search, out: &mut [u64]) -> Told
-    requires long { length memory.old ≡ 72 }
-    requires ahead { 0 < at.row → placed at (length (held memory.old)) 4096 ≡ true }
-    requires room { 4096 ≤ length out.old }
+fn seeks(memory: &mut Memory, size: u64, at: Search, out: &mut Row) -> Told
+    requires { 0 < at.row → placed at (length (held memory.old)) 4096 ≡ true }
     ensures { Does (moved size (held memory.old) (go_on (pass at (held memory.old)))) result memory.new out.old out.new }
 {
     if at.row > 0 {
         let told = tell_cut(memory, at, out);
-        let header = Header {
-            phase: SEEK,
-            size,
-            index: 0,
-        };
-        header.write(at, memory);
+        Stage::Seek(at).write(size, memory);
         return Told::Ask(told);
     }
     tries(memory, size, at.sure, out)
 }
 
 // A pass over all that is held.
-fn passes(memory: &mut [u64], size: u64, out: &mut [u64]) -> Told
-    requires long { length memory.old ≡ 72 }
-    requires room { 4096 ≤ length out.old }
+fn passes(memory: &mut Memory, size: u64, out: &mut Row) -> Told
     ensures { Does (moved size (held memory.old) (go_on (fresh (held memory.old)))) result memory.new out.old out.new }
 {
     let at = Search::fresh(count(memory));
     seeks(memory, size, at, out)
 }
 
-fn begins(memory: &mut [u64], n: u64, out: &mut [u64]) -> Told
-    requires long { length memory.old ≡ 72 }
-    requires room { 4096 ≤ length out.old }
+fn begins(memory: &mut Memory, n: u64, out: &mut Row) -> Told
     ensures { Does (own.step memory.old (parts n)) result memory.new out.old out.new }
 {
     if n > MOST {
-        Header::idle().write_alone(memory);
+        Stage::Idle.write(n, memory);
         return Told::TooMany;
     }
     fill(memory, n);
     let told = tell(memory, out);
-    let header = Header {
-        phase: FIRST,
-        size: n,
-        index: 0,
-    };
-    header.write_alone(memory);
+    Stage::First.write(n, memory);
     Told::Ask(told)
 }
 
-// Where the pass stands after the answer about the question at its cut.
-fn heard_at(memory: &[u64], fails: bool) -> Search
-    requires long { length memory.now ≡ 72 }
-    requires sane { sane (sought memory.now) (length (held memory.now)) 4096 ≡ true }
-    ensures { result ≡ heard (cut_at (sought memory.now) (length (held memory.now))) (sought memory.now) fails }
+// Where the question at the cut fails, keeps only what it asked of.
+fn keep_asked(memory: &mut Memory, at: Search, fails: bool)
+    requires { sane at (length (held memory.old)) 4096 ≡ true }
+    ensures { held memory.new ≡ (if fails then asked at (held memory.old) else held memory.old) }
 {
-    let at = read_pass(memory);
-    at.hear(count(memory), fails).unwrap_or(at)
-}
-
-// Keeps only what was asked of at the cut.
-fn keep_asked(memory: &mut [u64])
-    requires long { length memory.old ≡ 72 }
-    requires sane { sane (sought memory.old) (length (held memory.old)) 4096 ≡ true }
-    ensures { held memory.new ≡ asked (sought memory.old) (held memory.old) }
-{
-    let at = read_pass(memory);
-    let cut = at.cut(count(memory)).unwrap_or(at.row);
-    leave_between(memory, cut, at.row);
-}
-
-// Goes on with the pass.
-fn hears_cut(memory: &mut [u64], fails: bool, out: &mut [u64]) -> Told
-    requires long { length memory.old ≡ 72 }
-    requires room { 4096 ≤ length out.old }
-    requires sane { sane (sought memory.old) (length (held memory.old)) 4096 ≡ true }
-    ensures { Does (moved (header memory.old).size (held memory.old) (go_on (answered (cut_at (sought memory.old) (length (held memory.old))) (pass (sought memory.old) (held memory.old)) fails))) result memory.new out.old out.new }
-{
-    let size = Header::read(memory).size;
-    let at = heard_at(memory, fails);
-    if !fails {
-        return seeks(memory, size, at, out);
-    }
-    keep_asked(memory);
-    seeks(memory, size, at, out)
-}
-
-// Goes on after an answer that was awaited.
-fn goes_on(memory: &mut [u64], fails: bool, out: &mut [u64]) -> Told
-    requires long { length memory.old ≡ 72 }
-    requires room { 4096 ≤ length out.old }
-    requires awaited { fault memory.old ≡ 0 }
-    ensures { Does (moved (header memory.old).size (held memory.old) (next (standing (header memory.old) (sought memory.old) (held memory.old)) fails)) result memory.new out.old out.new }
-{
-    let header = Header::read(memory);
-    if header.phase == FIRST {
-        if fails {
-            return passes(memory, header.size, out);
-        }
-        Header::idle().write_alone(memory);
-        return Told::Sound;
-    }
-    if header.phase == SEEK {
-        return hears_cut(memory, fails, out);
-    }
     if fails {
-        leave(memory, header.index);
-        return passes(memory, header.size, out);
+        let cut = at.cut(count(memory)).unwrap_or(at.row);
+        leave_between(memory, cut, at.row);
     }
-    tries(memory, header.size, header.index + 1, out)
 }
 
-// What is at fault with an answer: 0 nothing, 1 no run leaves such a header, 2 nothing was asked.
-fn fault(memory: &[u64]) -> u64
-    requires { length memory.now ≡ 72 }
-    ensures { result ≡ fault memory.now }
+// Goes on with a pass.
+fn hears_cut(memory: &mut Memory, size: u64, at: Search, fails: bool, out: &mut Row) -> Told
+    requires { sane at (length (held memory.old)) 4096 ≡ true }
+    ensures { Does (moved size (held memory.old) (go_on (answered (cut_at at (length (held memory.old))) (pass at (held memory.old)) fails))) result memory.new out.old out.new }
 {
-    let header = Header::read(memory);
-    if !header.fine(read_pass(memory), count(memory)) {
-        return 1;
-    }
-    if header.phase == IDLE { 2 } else { 0 }
+    let next = at.hear(count(memory), fails).unwrap_or(at);
+    keep_asked(memory, at, fails);
+    seeks(memory, size, next, out)
 }
 
-fn hears(memory: &mut [u64], number: u64, out: &mut [u64]) -> Told
-    requires long { length memory.old ≡ 72 }
-    requires room { 4096 ≤ length out.old }
-    ensures { Heard (fault memory.old) memory.old number out.old result memory.new out.new }
+#[tactic(auto, using(crate::proofs::Laws::read_torn))]
+fn hears(memory: &mut Memory, number: u64, out: &mut Row) -> Result<Told, Refusal>
+    ensures { Heard (fault memory.old) memory.old (Event.Said number) out.old result memory.new out.new }
 {
-    let fault = fault(memory);
-    if fault != 0 {
-        return Told::No(fault);
+    let fails = bisect::fails(number);
+    let size = memory[SIZE];
+    match Stage::read(memory)? {
+        Stage::Idle => Err(Refusal::Unawaited),
+        Stage::First if fails => Ok(passes(memory, size, out)),
+        Stage::First => {
+            Stage::Idle.write(size, memory);
+            Ok(Told::Sound)
+        }
+        Stage::Seek(at) => Ok(hears_cut(memory, size, at, fails, out)),
+        Stage::Trial(index) if fails => {
+            leave(memory, index);
+            Ok(passes(memory, size, out))
+        }
+        Stage::Trial(index) => Ok(tries(memory, size, index + 1, out)),
     }
-    goes_on(memory, bisect::fails(number), out)
 }
 
-// One step: kind 0 tells how many parts there are, kind 1 what the judge said of what was asked last.
-pub fn step(memory: &mut [u64], kind: u64, number: u64, out: &mut [u64]) -> Told
-    ensures { StepSays (fits memory.old kind out.old) memory.old kind number out.old result memory.new out.new }
+fn acts(memory: &mut Memory, event: Event, out: &mut Row) -> Result<Told, Refusal>
+    ensures long { length out.new ≡ 4096 }
+    ensures does { Heard (fault_of memory.old event) memory.old event out.old result memory.new out.new }
 {
-    if memory.len() != LENGTH || kind > 1 || out.len() < MOST as usize {
-        return Told::No(0);
+    match event {
+        Event::Parts(n) => Ok(begins(memory, n, out)),
+        Event::Said(number) => hears(memory, number, out),
     }
-    if kind == 0 {
-        return begins(memory, number, out);
-    }
-    hears(memory, number, out)
+}
+
+// One step: the memory has 72 numbers, and the lent row room for 4,096.
+pub fn react(memory: &mut [u64], event: Event, out: &mut [u64]) -> Result<Told, Refusal>
+    ensures { Reacts (fits memory.old out.old) memory.old event out.old result memory.new out.new }
+{
+    let Some(memory) = memory.as_mut_array() else {
+        return Err(Refusal::Unfit);
+    };
+    let Some(out) = out.first_chunk_mut() else {
+        return Err(Refusal::Unfit);
+    };
+    acts(memory, event, out)
+}
+
+// The same for a caller that has only numbers.
+pub fn step(memory: &mut [u64], kind: u64, number: u64, out: &mut [u64]) -> Result<Told, Refusal>
+    ensures { StepSays (event kind number) memory.old out.old result memory.new out.new }
+{
+    react(memory, Event::try_from((kind, number))?, out)
 }
 
 // The reducer is right for every judge, with few questions for monotone ones.
@@ -461,14 +377,14 @@ mod tests {
     fn play(judge: &[u64], memory: &mut [u64], out: &mut [u64]) -> usize {
         let mut told = step(memory, 0, 3, out);
         for _ in 0..100 {
-            let Told::Ask(count) = told else {
+            let Ok(Told::Ask(count)) = told else {
                 break;
             };
             let said = judge.get(bits(out, count)).copied().unwrap_or(0);
             told = step(memory, 1, said, out);
         }
         match told {
-            Told::Rest(count) => bits(out, count),
+            Ok(Told::Rest(count)) => bits(out, count),
             _ => 8,
         }
     }
@@ -502,14 +418,14 @@ mod tests {
         let mut told = step(memory, 0, parts, out);
         let mut asked = 0u64;
         for _ in 0..70000 {
-            let Told::Ask(count) = told else {
+            let Ok(Told::Ask(count)) = told else {
                 break;
             };
             asked = asked.saturating_add(1);
             told = step(memory, 1, if count == parts { 1 } else { 0 }, out);
         }
         match told {
-            Told::Rest(count) => (count, asked),
+            Ok(Told::Rest(count)) => (count, asked),
             _ => (9999, asked),
         }
     }
@@ -530,20 +446,58 @@ mod tests {
         let mut memory = [0; 72];
         let mut out = [7; 4096];
         assert!(rt; all_are_left(&[0, 1, 63, 64, 65, 4095, 4096], &mut memory, &mut out));
-        assert!(rt; matches!(step(&mut memory, 0, 4097, &mut out), Told::TooMany));
+        assert_eq!(rt; step(&mut memory, 0, 4097, &mut out), Ok(Told::TooMany));
     }
 
     #[test]
     fn refuses(rt: HostRuntime) {
         let mut memory = [0; 72];
         let mut out = [7; 4096];
-        assert!(rt; matches!(step(&mut memory, 1, 1, &mut out), Told::No(2)));
-        assert!(rt; matches!(step(&mut memory, 2, 1, &mut out), Told::No(0)));
-        assert!(rt; matches!(step(&mut [0; 71], 0, 6, &mut out), Told::No(0)));
-        assert!(rt; matches!(step(&mut memory, 0, 6, &mut [0; 4095]), Told::No(0)));
+        assert_eq!(rt; step(&mut memory, 1, 1, &mut out), Err(Refusal::Unawaited));
+        assert_eq!(rt; step(&mut memory, 2, 1, &mut out), Err(Refusal::Unfit));
+        assert_eq!(rt; step(&mut [0; 71], 0, 6, &mut out), Err(Refusal::Unfit));
+        assert_eq!(rt;
+            step(&mut memory, 0, 6, &mut [0; 4095]),
+            Err(Refusal::Unfit)
+        );
         let mut torn = [0; 72];
         torn[0] = 4;
-        assert!(rt; matches!(step(&mut torn, 1, 1, &mut out), Told::No(1)));
+        assert_eq!(rt; step(&mut torn, 1, 1, &mut out), Err(Refusal::Torn));
         assert_eq!(rt; torn[0], 4);
+    }
+
+    #[test]
+    fn takes_an_event_by_its_kind(rt: HostRuntime) {
+        assert_eq!(rt; Event::try_from((0, 6)), Ok(Event::Parts(6)));
+        assert_eq!(rt; Event::try_from((1, 2)), Ok(Event::Said(2)));
+        assert_eq!(rt; Event::try_from((2, 1)), Err(Refusal::Unfit));
+    }
+
+    #[test]
+    fn reacts(rt: HostRuntime) {
+        let mut memory = [0; 72];
+        let mut out = [7; 4097];
+        assert_eq!(rt;
+            react(&mut memory, Event::Said(1), &mut out),
+            Err(Refusal::Unawaited)
+        );
+        assert_eq!(rt;
+            react(&mut memory, Event::Parts(2), &mut out),
+            Ok(Told::Ask(2))
+        );
+        assert!(rt; out.starts_with(&[0, 1, 7]));
+        assert_eq!(rt;
+            react(&mut memory, Event::Said(1), &mut out),
+            Ok(Told::Ask(0))
+        );
+        assert_eq!(rt;
+            react(&mut memory, Event::Said(1), &mut [0; 4095]),
+            Err(Refusal::Unfit)
+        );
+        assert_eq!(rt;
+            react(&mut memory, Event::Parts(4097), &mut out),
+            Ok(Told::TooMany)
+        );
+        assert_eq!(rt; out[4096], 7);
     }
 }

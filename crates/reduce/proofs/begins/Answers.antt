@@ -10,15 +10,15 @@ pub returns-then-n-gt-MOST : goal.returns-then-n-gt-MOST
 unfolding ActTold stored act_by
 returns-then-n-gt-MOST c =
     does _ _ _ _ _ _
-    (own_begins c.args.memory.now c.args.n c.requires.long ∙ ap (moved c.args.n (held c.args.memory.now)) (begins_many c.args.n (omega arith)))
-    (c.write_alone.ensures ∙ ap (λ h. kept h nowhere (held c.args.memory.now)) c.idle.ensures, (refl, refl))
+    (own_begins c.args.memory.now c.args.n c.told-memory ∙ ap (moved c.args.n (held c.args.memory.now)) (begins_many c.args.n (omega arith)))
+    (c.write.ensures, (refl, refl))
 
 pub returns : goal.returns
 unfolding ActTold stored act_by
 returns c =
     does _ _ _ _ _ _
-    (own_begins c.args.memory.now c.args.n c.requires.long ∙ ap (moved c.args.n (held c.args.memory.now)) (begins_few c.args.n (omega arith))) (
-      c.write_alone-2.ensures ∙ ap (kept (first_at c.args.n) nowhere) c.fill.ensures,
+    (own_begins c.args.memory.now c.args.n c.told-memory ∙ ap (moved c.args.n (held c.args.memory.now)) (begins_few c.args.n (omega arith))) (
+      c.write-2.ensures ∙ ap (kept (first_at c.args.n) nowhere) c.fill.ensures,
       (
         ap Ask (c.tell-told.ensures.count ∙ ap length c.fill.ensures),
         c.tell-told.ensures.told ∙ ap (λ ks. ks ++ drop (length ks) c.args.out.now) c.fill.ensures,

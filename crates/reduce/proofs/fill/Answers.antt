@@ -10,7 +10,7 @@ pub returns : goal.returns
 returns c =
     let m : List ℕ = c.args.memory.now in
     let ys : List ℕ = c.fill.new.words in
-    let n : length (row m) ≡ 64 = row_length m c.requires.long in
+    let n : length (row m) ≡ 64 = row_length m c.told-memory in
     let size : length ys ≡ 64 = omega arith in
-    let filled : c.fill.result ≡ true = c.fill.ensures.said ∙ and_from _ _ (le-leb _ 64 (omega arith)) (le-leb c.args.n _ (omega (arith, c.requires.few))) in
-    ap (λ ws. members ws) (row_put m ys c.requires.long size) ∙ (done _ _ _ _ filled c.fill.ensures.after).left
+    let filled : c.fill.result ≡ true = c.fill.ensures.said ∙ and_from _ _ (le-leb _ 64 (omega arith)) (le-leb c.args.n _ (omega (arith, c.requires))) in
+    ap (λ ws. members ws) (row_put m ys c.told-memory size) ∙ (done _ _ _ _ filled c.fill.ensures.after).left

@@ -1,14 +1,14 @@
-use Rattle.std.proofs.Common.{◌≡◌, ℕ, List, length, ap, ◌∙◌, arith}
-use Rattle.subset.specs.Row.{members}
+use Rattle.std.proofs.Common.{◌∙◌, arith}
+use Rattle.subset.proofs.Words.{members_le}
 use Rattle.reduce.specs.Own.{row}
+use Rattle.reduce.proofs.Memory.{cut_one}
 use Rattle.reduce.proofs.Stored.{row_length}
-use Rattle.reduce.proofs.Memory.{row_put}
 use Rattle.reduce.proofs.leave.Goals as goal
 
+pub overflow_add-rank : goal.overflow_add-rank
+overflow_add-rank c =
+    let m = c.args.memory.now in
+    record { fits = omega (arith, members_le (row m), row_length m c.told-memory, c.requires) }
+
 pub returns : goal.returns
-returns c =
-    let m : List ℕ = c.args.memory.now in
-    let ys : List ℕ = c.take_rank.new.words in
-    let n : length (row m) ≡ 64 = row_length m c.requires.long in
-    let size : length ys ≡ 64 = omega arith in
-    ap (λ ws. members ws) (row_put m ys c.requires.long size) ∙ c.take_rank.ensures
+returns c = c.leave_between.ensures ∙ cut_one (row c.args.memory.now) c.args.rank c.requires

@@ -12,15 +12,11 @@ pub seeks-requires : goal.seeks-requires
 seeks-requires c =
     let m = c.args.memory.now in
     let begun : c.fresh-at.result ≡ place 0 (length (held m)) (length (held m)) 0 0 = c.fresh-at.ensures ∙ ap (λ n. place 0 n n 0 0) c.count.ensures in
-    record {
-      long = c.requires.long;
-      ahead = subst (λ (s : Search). 0 < s.row → placed s (length (held m)) 4096 ≡ true) (sym begun) (λ h.
-          true_placed (place 0 (length (held m)) (length (held m)) 0 0) (length (held m)) 4096 (record {
-            most = omega arith;
-            ahead = h;
-            inside = omega arith;
-            fewer = omega arith;
-            old = omega (arith, members_le (row m), row_length m c.requires.long);
-          }));
-      room = c.requires.room;
-    }
+    subst (λ (s : Search). 0 < s.row → placed s (length (held m)) 4096 ≡ true) (sym begun) (λ h.
+    true_placed (place 0 (length (held m)) (length (held m)) 0 0) (length (held m)) 4096 (record {
+      most = omega arith;
+      ahead = h;
+      inside = omega arith;
+      fewer = omega arith;
+      old = omega (arith, members_le (row m), row_length m c.told-memory);
+    }))

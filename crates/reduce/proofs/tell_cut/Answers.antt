@@ -8,8 +8,9 @@ use Rattle.reduce.proofs.tell_cut.Goals as goal
 
 pub returns : goal.returns
 returns c =
-    let few : length (row c.args.memory.now) ≡ 64 = row_length c.args.memory.now c.requires.long in
-    let can : askable c.args.at (row c.args.memory.now) c.args.out.now ≡ true =
-    and_from _ _ (le-leb (length (row c.args.memory.now)) 64 (omega arith)) (and_from _ _ c.requires.ahead (le-leb 4096 (length c.args.out.now) c.requires.room)) in
-    let told = subst (λ (b : Bool). Told b (asked c.args.at (held c.args.memory.now)) c.args.out.now c.question.result c.question.new.out) can c.question.ensures in
+    let m = c.args.memory.now in
+    let can : askable c.args.at (row m) c.args.out.now ≡ true =
+    and_from _ _ (le-leb (length (row m)) 64 (omega (arith, row_length m c.told-memory)))
+    (and_from _ _ c.requires (le-leb 4096 (length c.args.out.now) (omega (arith, c.told-out)))) in
+    let told = subst (λ (b : Bool). Told b (asked c.args.at (held m)) c.args.out.now c.question.result c.question.new.out) can c.question.ensures in
     record { count = c.unwrap_or.ensures ∙ ap (λ o. unwrap_or o 0) told.0; told = told.1 }
