@@ -99,6 +99,7 @@ impl Search {
     }
 
     // Whether something is open in the row of so many members, of at most so many parts.
+    // Two numbers and no type of both: callers have each by itself, and one asks only with MOST.
     pub fn is_placed(self, count: u64, most: u64) -> bool
         ensures { result ≡ placed self count most }
     {
@@ -151,6 +152,7 @@ impl Search {
         }
     }
 
+    // Apart from `hear`, whose proof has no margin with this in it.
     fn after(self, cut: u64, fails: bool) -> Search
         requires sure { self.sure ≤ 4095 }
         requires spent { self.spent ≤ 53261 }
