@@ -1,5 +1,5 @@
 -- What a step is, case by case.
-use Rattle.std.proofs.Common.{◌≡◌, ℕ, ◌+◌, ◌-◌, ◌*◌, ◌<◌, ◌≤◌, Bool, true, false, cond, ◌&&◌, eqb, ltb, leb, List, ◌++◌, length, get_or, take, drop, Option, Some, None, Result, Ok, Err, unwrap_or, sym, refl, ap, ◌∙◌, subst, ap₂, append_assoc, length-append, arith}
+use Rattle.std.proofs.Common.{◌≡◌, ℕ, ◌+◌, ◌-◌, ◌*◌, ◌<◌, ◌≤◌, Bool, true, false, cond, ◌&&◌, eqb, ltb, leb, List, ◌++◌, length, get_or, take, drop, Option, Some, None, Result, Ok, Err, sym, refl, ap, ◌∙◌, subst, ap₂, append_assoc, length-append, arith}
 use Rattle.std.proofs.lemmas.List.{take-append-drop, drop-append-le}
 use Rattle.std.proofs.lemmas.Bool.{and_parts, and_from, both_ways, ltb-true, lt-ltb, le-ltb, le-leb, lt-leb}
 use Rattle.subset.specs.Parts.{all_parts}
@@ -160,11 +160,11 @@ heard_placed s ks b e p q h =
 
 -- what `hear` and `cut` answer of numbers that fit
 pub hear_after : (s : Search) (k k₀ : ℕ) (b : Bool) (o : Option Search) (r : Search) → k₀ ≡ k → sane s k 4096 ≡ true
-    → o ≡ given (sane s k₀ 4096) (heard (cut_at s k₀) s b) → r ≡ unwrap_or o s → r ≡ heard (cut_at s k) s b
+    → o ≡ given (sane s k₀ 4096) (heard (cut_at s k₀) s b) → o ≡ Some r → r ≡ heard (cut_at s k) s b
 hear_after s k k₀ b o r q z e₁ e₂ =
-    e₂ ∙ ap (λ v. unwrap_or v s) (e₁ ∙ ap (λ n. given (sane s n 4096) (heard (cut_at s n) s b)) q ∙ ap (λ v. given v (heard (cut_at s k) s b)) z)
+    let e = e₁ ∙ ap (λ n. given (sane s n 4096) (heard (cut_at s n) s b)) q ∙ ap (λ v. given v (heard (cut_at s k) s b)) z in cc
 
-pub cut_after : (s : Search) (k k₀ d : ℕ) (o : Option ℕ) (r : ℕ) → k₀ ≡ k → sane s k 4096 ≡ true
-    → o ≡ given (placed s k₀ 4096) (cut_at s k₀) → r ≡ unwrap_or o d → r ≡ cut_at s k
-cut_after s k k₀ d o r q z e₁ e₂ =
-    e₂ ∙ ap (λ v. unwrap_or v d) (e₁ ∙ ap (λ n. given (placed s n 4096) (cut_at s n)) q ∙ ap (λ v. given v (cut_at s k)) (and_parts (placed s k 4096) _ z).0)
+pub cut_after : (s : Search) (k k₀ : ℕ) (o : Option ℕ) (r : ℕ) → k₀ ≡ k → sane s k 4096 ≡ true
+    → o ≡ given (placed s k₀ 4096) (cut_at s k₀) → o ≡ Some r → r ≡ cut_at s k
+cut_after s k k₀ o r q z e₁ e₂ =
+    let e = e₁ ∙ ap (λ n. given (placed s n 4096) (cut_at s n)) q ∙ ap (λ v. given v (cut_at s k)) (and_parts (placed s k 4096) _ z).0 in cc

@@ -14,12 +14,7 @@ ghost use Rattle.reduce.specs.Own.{bare, fault, held, moved, nowhere, own, stage
 ghost use Rattle.reduce.specs.Start.{FromAny, FromCuts, NestedTrial};
 ghost use Rattle.reduce.specs.State.{go_on, less, next, trial};
 
-use bisect::Search;
-
-// The most parts, and how long a memory is.
-const MOST: u64 = 4096;
-
-const LENGTH: usize = 72;
+use bisect::{LENGTH, MOST, Search};
 
 type Memory = [u64; LENGTH];
 
@@ -123,7 +118,7 @@ impl Stage {
     fn read(memory: &Memory) -> Result<Stage, Refusal>
         ensures { result ≡ stage memory.now }
     {
-        let at = Search::read(memory).unwrap_or(nowhere());
+        let at = Search::read(memory).unwrap();
         let size = memory[SIZE];
         let index = memory[INDEX];
         let count = count(memory);
@@ -151,21 +146,21 @@ impl Stage {
         memory[PHASE] = phase;
         memory[SIZE] = size;
         memory[INDEX] = index;
-        at.write(memory);
+        at.write(memory).unwrap();
     }
 }
 
 fn count(memory: &Memory) -> u64
     ensures { result ≡ length (held memory.now) }
 {
-    subset::count(&memory[WORDS..LENGTH]).unwrap_or(0)
+    subset::count(&memory[WORDS..LENGTH]).unwrap()
 }
 
 fn tell(memory: &Memory, out: &mut Row) -> u64
     ensures count { result ≡ length (held memory.now) }
     ensures told { out.new ≡ held memory.now ++ drop (length (held memory.now)) out.old }
 {
-    subset::tell(&memory[WORDS..LENGTH], out).unwrap_or(0)
+    subset::tell(&memory[WORDS..LENGTH], out).unwrap()
 }
 
 // The same without the member at a rank, which stays in the memory.
@@ -185,14 +180,14 @@ fn tell_cut(memory: &Memory, at: Search, out: &mut Row) -> u64
     ensures count { result ≡ length (asked at (held memory.now)) }
     ensures told { out.new ≡ asked at (held memory.now) ++ drop (length (asked at (held memory.now))) out.old }
 {
-    bisect::question(&memory[WORDS..LENGTH], at, out).unwrap_or(0)
+    bisect::question(&memory[WORDS..LENGTH], at, out).unwrap()
 }
 
 fn fill(memory: &mut Memory, n: u64)
     requires { n ≤ 4096 }
     ensures { held memory.new ≡ all_parts n }
 {
-    subset::fill(&mut memory[WORDS..LENGTH], n);
+    subset::fill(&mut memory[WORDS..LENGTH], n).unwrap();
 }
 
 // Takes out the members whose rank is in from..to.
@@ -200,7 +195,7 @@ fn leave_between(memory: &mut Memory, from: u64, to: u64)
     requires { from ≤ to }
     ensures { held memory.new ≡ cut_out from to (held memory.old) }
 {
-    subset::cut(&mut memory[WORDS..LENGTH], from, to);
+    subset::cut(&mut memory[WORDS..LENGTH], from, to).unwrap();
 }
 
 fn leave(memory: &mut Memory, rank: u64)
@@ -265,7 +260,7 @@ fn keep_asked(memory: &mut Memory, at: Search, fails: bool)
     ensures { held memory.new ≡ (if fails then asked at (held memory.old) else held memory.old) }
 {
     if fails {
-        let cut = at.cut(count(memory)).unwrap_or(at.row);
+        let cut = at.cut(count(memory)).unwrap();
         leave_between(memory, cut, at.row);
     }
 }
@@ -275,7 +270,7 @@ fn hears_cut(memory: &mut Memory, size: u64, at: Search, fails: bool, out: &mut 
     requires { sane at (length (held memory.old)) 4096 ≡ true }
     ensures { Does (moved size (held memory.old) (go_on (answered (cut_at at (length (held memory.old))) (pass at (held memory.old)) fails))) result memory.new out.old out.new }
 {
-    let next = at.hear(count(memory), fails).unwrap_or(at);
+    let next = at.hear(count(memory), fails).unwrap();
     keep_asked(memory, at, fails);
     seeks(memory, size, next, out)
 }

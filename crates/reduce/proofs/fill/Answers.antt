@@ -1,4 +1,4 @@
-use Rattle.std.proofs.Common.{◌≡◌, ℕ, true, List, length, ap, ◌∙◌, arith}
+use Rattle.std.proofs.Common.{◌≡◌, ℕ, List, length, ap, ◌∙◌, arith}
 use Rattle.std.proofs.lemmas.Bool.{and_from, le-leb}
 use Rattle.subset.specs.Row.{members}
 use Rattle.reduce.specs.Own.{row}
@@ -12,5 +12,4 @@ returns c =
     let ys : List ℕ = c.fill.new.words in
     let n : length (row m) ≡ 64 = row_length m c.told-memory in
     let size : length ys ≡ 64 = omega arith in
-    let filled : c.fill.result ≡ true = c.fill.ensures.said ∙ and_from _ _ (le-leb _ 64 (omega arith)) (le-leb c.args.n _ (omega (arith, c.requires))) in
-    ap (λ ws. members ws) (row_put m ys c.told-memory size) ∙ (done _ _ _ _ filled c.fill.ensures.after).left
+    ap (λ ws. members ws) (row_put m ys c.told-memory size) ∙ (done _ _ _ _ (and_from _ _ (le-leb _ 64 (omega arith)) (le-leb c.args.n _ (omega (arith, c.requires)))) c.fill.ensures.after).left

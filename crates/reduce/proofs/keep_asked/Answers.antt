@@ -11,7 +11,7 @@ pub leave_between-requires : goal.leave_between-requires
 leave_between-requires c =
     let at = c.args.at in
     let ks = held c.args.memory.now in
-    let cut = cut_after at (length ks) c.count.result at.row c.cut.result c.unwrap_or-cut.result c.count.ensures c.requires c.cut.ensures c.unwrap_or-cut.ensures in
+    let cut = cut_after at (length ks) c.count.result c.cut.result c.unwrap-cut.result c.count.ensures c.requires c.cut.ensures c.unwrap-cut.ensures in
     omega (arith, cut, cut_inside at ks (sane_from at ks 4096 c.requires).0)
 
 pub returns-then-fails : goal.returns-then-fails
@@ -19,5 +19,5 @@ unfolding keep
 returns-then-fails c =
     let at = c.args.at in
     let ks = held c.args.memory.now in
-    let cut = cut_after at (length ks) c.count.result at.row c.cut.result c.unwrap_or-cut.result c.count.ensures c.requires c.cut.ensures c.unwrap_or-cut.ensures in
+    let cut = cut_after at (length ks) c.count.result c.cut.result c.unwrap-cut.result c.count.ensures c.requires c.cut.ensures c.unwrap-cut.ensures in
     c.leave_between.ensures ∙ ap (λ k. cut_out k at.row ks) cut ∙ rw c.if-fails.true refl
