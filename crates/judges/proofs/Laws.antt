@@ -6,7 +6,8 @@ use Rattle.subset.specs.Parts.{has, within, without, all_parts}
 use Rattle.subset.proofs.Lists.{Row, row_all, row_without, row_to, every_has, has_every, has_without, without_some, those_in, those_out, length_all}
 use Rattle.subset.proofs.Order.{must_false}
 use Rattle.subset.proofs.Changes.{has_all}
-use Rattle.judges.specs.Sets.{sets_of, has_one, SetsGrow}
+use Rattle.judges.specs.Spelled.{lists_of}
+use Rattle.judges.specs.Sets.{has_one, SetsGrow}
 use Rattle.judges.specs.Rule.{RuleTurns}
 
 -- what says 1 by a test
@@ -28,7 +29,7 @@ any_more (set ∷ sets) ks js h e =
 
 pub sets_grow : SetsGrow
 unfolding SetsGrow
-sets_grow row n ks js a b h e = fails_so (has_one row js) (any_more (sets_of row) ks js h (failing (has_one row ks) e))
+sets_grow row n ks js a b h e = fails_so (has_one row js) (any_more (lists_of row) ks js h (failing (has_one row ks) e))
 
 -- a subset has a part at most once
 one_less : (x b n : ℕ) (ks : List ℕ) → Row b n ks → length ks ≤ suc (length (without x ks))

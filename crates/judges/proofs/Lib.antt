@@ -1,5 +1,3 @@
-pub mod Rows
-pub mod SetRows
 pub mod Listed
 pub mod Shown
 mod Places

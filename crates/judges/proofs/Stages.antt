@@ -1,7 +1,7 @@
 -- Where a run stands while it goes on: with what is still to come it makes up the whole run, which keeps the promises.
-use Rattle.std.proofs.Common.{◌≡◌, ℕ, zero, suc, ◌+◌, ◌*◌, ◌<◌, ◌≤◌, Bool, true, false, cond, ◌&&◌, eqb, leb, List, [], ◌∷◌, length, take, sym, refl, ap, ◌∙◌, ap₂, inl, inr, mul-le-mul, arith}
+use Rattle.std.proofs.Common.{◌≡◌, ℕ, zero, suc, ◌+◌, ◌*◌, ◌<◌, ◌≤◌, Bool, true, false, cond, eqb, leb, List, [], ◌∷◌, length, take, Some, None, Option, Ok, Err, Result, refl, ap, ◌∙◌, inl, inr, mul-le-mul, arith, MatchResult}
 use Rattle.std.specs.List.{list_all}
-use Rattle.std.proofs.lemmas.Bool.{both_ways, and_from, and_parts, eqb-true, leb-true, eq-eqb, le-leb, lt-leb, ne_eqb, cases_lt, cases_Bool, cond_both}
+use Rattle.std.proofs.lemmas.Bool.{both_ways, and_from, and_parts, eqb-true, leb-true, eq-eqb, le-leb, lt-leb, cases_lt, cases_Bool, cond_both}
 use Rattle.subset.specs.Parts.{all_parts, some_of}
 use Rattle.bisect.specs.Judge.{Judge, fails, Monotone}
 use Rattle.bisect.specs.Engine.{Event, parts, said, Act, ask, left, sound, refused, Ran, ran, told_refused, strayed, acted, runs, run_of, Steady}
@@ -11,15 +11,21 @@ use Rattle.bisect.proofs.Demand.{square}
 use Rattle.bisect.proofs.Least.{lean_least}
 use Rattle.reduce.specs.State.{State, idle, first, seek, try, over, calm, many, begin, act_of, act_by}
 use Rattle.reduce.specs.Own.{stored, fault, doing, goes, own}
-use Rattle.reduce.specs.Entry.{ActTold, Heard, StepSays, fits}
+use Rattle.reduce.specs.Entry.{ActTold, Heard, Reacts, fits}
+use Rattle.reduce.specs.declared.Event.TheVariants.{Parts, Said}
+use Rattle.reduce.specs.declared.Refusal.{Refusal}
+use Rattle.reduce.specs.declared.Refusal.TheVariants.{Unawaited}
 use Rattle.reduce.specs.declared.Told.{Told}
-use Rattle.reduce.specs.declared.Told.TheVariants.{Ask, No}
+use Rattle.reduce.specs.declared.Told.TheVariants.{Ask, Rest, Sound, TooMany}
 use Rattle.reduce.proofs.Stored.{step_said}
 use Rattle.reduce.proofs.Steady.{steady}
 use Rattle.reduce.proofs.Reduces.{sharp}
 use Rattle.judges.specs.Kept.{Kept}
-use Rattle.judges.specs.Driver.{most, end_of, Ends, RunSays}
+use Rattle.judges.specs.Driver.{most, Ends, RunSays}
 use Rattle.judges.specs.declared.driver.Ended.{Ended}
+use Rattle.judges.specs.declared.driver.Ended.TheVariants as ended_by
+use Rattle.judges.specs.declared.driver.RunError.{RunError}
+use Rattle.judges.specs.declared.driver.RunError.TheVariants as error
 use Rattle.judges.specs.Whole.{ended_as, run_told, Tells, RunTells}
 use Rattle.judges.proofs.Shown.{shown}
 
@@ -99,7 +105,7 @@ unfolding Steady
 step_long m ev h = (steady.2 m ev).0 ∙ h
 
 -- and one that asks nothing a memory that awaits no answer
-stored_idle : (n : ℕ) (ks : List ℕ) (s : State) → asking (act_of s) ≡ false → fault (stored n ks s) ≡ 2
+stored_idle : (n : ℕ) (ks : List ℕ) (s : State) → asking (act_of s) ≡ false → fault (stored n ks s) ≡ Some Unawaited
 unfolding stored act_by fault
 stored_idle n ks idle h = refl
 stored_idle n ks (first js) h = absurd (both_ways _ h refl)
@@ -109,13 +115,13 @@ stored_idle n ks (over js) h = refl
 stored_idle n ks calm h = refl
 stored_idle n ks many h = refl
 
-step_idle : (m : List ℕ) (v : ℕ) → length m ≡ 72 → fault m ≡ 0 → asking (own.step m (said v)).act ≡ false → fault (own.step m (said v)).memory ≡ 2
+step_idle : (m : List ℕ) (v : ℕ) → length m ≡ 72 → fault m ≡ None → asking (own.step m (said v)).act ≡ false → fault (own.step m (said v)).memory ≡ Some Unawaited
 step_idle m v h z = rw (step_said m v h z) (stored_idle _ _ _)
 
 -- an answer that is not awaited is refused
-step_refuses : (m : List ℕ) (v : ℕ) → length m ≡ 72 → (fault m ≡ 0 → ⊥) → own.step m (said v) ≡ doing m refused
+step_refuses : (m : List ℕ) (v : ℕ) (e : Refusal) → length m ≡ 72 → fault m ≡ Some e → own.step m (said v) ≡ doing m refused
 unfolding own goes
-step_refuses m v h z = rw (eq-eqb (length m) 72 h, ne_eqb (fault m) 0 z)
+step_refuses m v e h z = rw (h, z)
 
 -- told how many parts there are, it begins the same from any memory
 begins_same : (n : ℕ) (f : Judge) (m : List ℕ) (k : ℕ) → length m ≡ 72 → run_of (suc k) n own f ≡ runs (suc k) n own f m (parts n) []
@@ -123,7 +129,7 @@ unfolding runs acted own goes begin stored act_by
 begins_same n f m k h =
     elim (cases_lt 4096 n) [ inl l ↦ rw (eq-eqb (length m) 72 h, lt-leb n 4096 l) | inr l ↦ rw (eq-eqb (length m) 72 h, le-leb n 4096 l) ]
 
-begins_idle : (m : List ℕ) (n : ℕ) → length m ≡ 72 → asking (own.step m (parts n)).act ≡ false → fault (own.step m (parts n)).memory ≡ 2
+begins_idle : (m : List ℕ) (n : ℕ) → length m ≡ 72 → asking (own.step m (parts n)).act ≡ false → fault (own.step m (parts n)).memory ≡ Some Unawaited
 unfolding own goes
 begins_idle m n h = rw (eq-eqb (length m) 72 h) (stored_idle _ _ _)
 
@@ -131,6 +137,13 @@ begins_idle m n h = rw (eq-eqb (length m) 72 h) (stored_idle _ _ _)
 many_row : (n : ℕ) (m : List ℕ) (r : Told) (out out₁ : List ℕ) → length m ≡ 72 → ActTold (own.step m (parts n)).act r out out₁ → 4096 < n → out₁ ≡ out
 unfolding ActTold own goes begin act_by
 many_row n m r out out₁ h t l = (rw (eq-eqb (length m) 72 h, lt-leb n 4096 l) at t).1
+
+-- what was told last, after so many questions, as the end of a run
+abbrev pub end_of : Told → (asked : ℕ) → Result Ended RunError
+end_of (Ask k) asked = Err error.Unfit
+end_of (Rest k) asked = Ok (ended_by.Left k asked)
+end_of Sound asked = Ok (ended_by.Sound asked)
+end_of TooMany asked = Err error.TooMany
 
 -- ---- the stages of a run
 module _ (n : ℕ) (f : Judge) where
@@ -154,7 +167,7 @@ module _ (n : ℕ) (f : Judge) where
     pub on : whole ≡ run_told told questions out
     pub tells : end_of told (length questions) ≡ ended_as whole
     pub row : take (length whole.rest) out ≡ whole.rest
-    pub idle : fault m ≡ 2
+    pub idle : fault m ≡ Some Unawaited
 
   -- after an act it asks, or it has ended
   pub data Stage (told : Told) (questions : List (List ℕ)) (m out : List ℕ) : Type 0 where
@@ -164,7 +177,7 @@ module _ (n : ℕ) (f : Judge) where
   -- so an act leads to a stage, since the whole run neither strays nor stops while it asks
   stage : (k : ℕ) (qs : List (List ℕ)) (a : Act) (before : List ℕ) (told : Told) (m out : List ℕ)
       → whole ≡ acted n f qs (λ v qs₁. runs k n own f m (said v) qs₁) a → ActTold a told before out → length m ≡ 72
-      → (asking a ≡ false → fault m ≡ 2) → Stage told qs m out
+      → (asking a ≡ false → fault m ≡ Some Unawaited) → Stage told qs m out
   unfolding acted ActTold runs
   stage k qs (ask q) before told m out e (t, u) h i =
       let (row, room) = shown q before out u in
@@ -202,107 +215,112 @@ module _ (n : ℕ) (f : Judge) where
           let on : whole ≡ runs (suc k) n own f m (parts n) [] = ap (λ (k : ℕ). run_of k n own f) e ∙ begins_same n f m k h in
           stage k [] _ out r _ out₁ on t (step_long m (parts n) h) (begins_idle m n h)
 
-  asks_few : (count : ℕ) (qs : List (List ℕ)) (m out : List ℕ) → Asks count qs m out → length qs < most
-  asks_few count qs m out a =
+  asks_more : (count : ℕ) (qs : List (List ℕ)) (m out : List ℕ) → Asks count qs m out → length qs < length whole.asked
+  asks_more count qs m out a =
       let now = take count out ∷ qs in
       let all = runs_keep n f (λ xs. length now ≤ length xs) (λ x xs e p. omega arith) (suc a.acts) m (said (f (take count out))) now (omega arith) in
-      omega (arith, closed.few, ap (λ (R : Ran). length R.asked) a.on)
+      omega (arith, ap (λ (R : Ran). length R.asked) a.on)
 
-  -- told the answer
-  pub turn : (count : ℕ) (qs : List (List ℕ)) (m before : List ℕ) (v : ℕ) (out : List ℕ) (r : Told) (m₁ out₁ : List ℕ) → Asks count qs m before
-      → v ≡ f (take count before) → fits m 1 out ≡ true → StepSays (fits m 1 out) m 1 v out r m₁ out₁ → Stage r (take count before ∷ qs) m₁ out₁
+  -- told the answer, of which nothing is refused
+  pub turn : (count : ℕ) (qs : List (List ℕ)) (m before : List ℕ) (v : ℕ) (out : List ℕ) (r : Result Told Refusal) (m₁ out₁ : List ℕ) → Asks count qs m before
+      → v ≡ f (take count before) → fits m out ≡ true → Reacts (fits m out) m (Said v) out r m₁ out₁
+      → (t : Told) × (r ≡ Ok t) × Stage t (take count before ∷ qs) m₁ out₁
   unfolding runs acted
-  turn count qs m before v out r m₁ out₁ a e ready t = go (fault m) refl (rw (e, ready) at t)
+  turn count qs m before v out r m₁ out₁ a e ready s = go (fault m) refl r (rw (e, ready) at s)
     where
-      go : (z : ℕ) → fault m ≡ z → Heard z m (f (take count before)) out r m₁ out₁ → Stage r (take count before ∷ qs) m₁ out₁
-      go zero z (d, t) =
-          rw d (stage a.acts (take count before ∷ qs) _ out r _ out₁ a.on t (step_long m _ a.long) (step_idle m _ a.long z))
+      go : (z : Option Refusal) → fault m ≡ z → (r : Result Told Refusal) → Heard z m (Said (f (take count before))) out r m₁ out₁
+          → (t : Told) × (r ≡ Ok t) × Stage t (take count before ∷ qs) m₁ out₁
+      go None z (Ok t) (d, x) = (t, refl, rw d (stage a.acts (take count before ∷ qs) _ out t _ out₁ a.on x (step_long m _ a.long) (step_idle m _ a.long z)))
+      go None z (Err x) y = absurd y
       -- after a question its answer is awaited
-      go (suc j) z t =
-          let on : whole ≡ ran (take count before ∷ qs) told_refused [] = rw (step_refuses m (f (take count before)) a.long (λ y. omega arith)) at a.on in
+      go (Some x) z r y =
+          let on : whole ≡ ran (take count before ∷ qs) told_refused [] = rw (step_refuses m (f (take count before)) x a.long z) at a.on in
           absurd (omega (arith, closed.refused (ap (λ (R : Ran). R.end) on), ap (λ (R : Ran). length R.asked) on))
 
--- ---- the turns of the loop, whether memory m₀ and row o fit or not; until something was asked the row is that of the first act
-abbrev pub Goes : (fits : Bool) (n : ℕ) (f : Judge) (m₀ o : List ℕ) → Told → (asked : ℕ) → (m out : List ℕ) → Type 0
-Goes true n f m₀ o told asked m out = (qs : List (List ℕ)) × (asked ≡ length qs) × (asked ≡ 0 → out ≡ o) × Stage n f told qs m out
-Goes false n f m₀ o told asked m out = (told ≡ No 0) × (m ≡ m₀) × (out ≡ o)
+-- ---- the turns of the loop, where memory and row fit, from row o
+pub record Goes (n : ℕ) (f : Judge) (o : List ℕ) (told : Told) (asked : ℕ) (m out : List ℕ) : Type 0 where
+  pub questions : List (List ℕ)
+  pub count : asked ≡ length questions
+  pub many : 4096 < n → out ≡ o
+  pub stage : Stage n f told questions m out
 
-fits_alike : (m m₀ out o : List ℕ) → length m₀ ≡ length m → length o ≡ length out → fits m₀ 0 o ≡ fits m 0 out
-fits_alike m m₀ out o a b = ap₂ (λ i j. eqb i 72 && leb 4096 j) a b
-
-fitting : (m out : List ℕ) → fits m 0 out ≡ true → (length m ≡ 72) × (4096 ≤ length out)
+fitting : (m out : List ℕ) → fits m out ≡ true → (length m ≡ 72) × (4096 ≤ length out)
 fitting m out e = let (a, b) = and_parts (eqb (length m) 72) (leb 4096 (length out)) e in (eqb-true _ _ a, leb-true _ _ b)
 
 module _ (n : ℕ) (f : Judge) where
-  pub goes_begins : (m m₀ out o : List ℕ) (r : Told) (asked : ℕ) → length m₀ ≡ length m → length o ≡ length out → asked ≡ 0
-      → StepSays (fits m 0 out) m 0 n out r m₀ o → Goes (fits m₀ 0 o) n f m₀ o r asked m₀ o
-  goes_begins m m₀ out o r asked a b z t = rw (fits_alike m m₀ out o a b) (go (fits m 0 out) refl t)
+  pub goes_begins : (m out : List ℕ) (r : Result Told Refusal) (t : Told) (m₁ out₁ : List ℕ) → r ≡ Ok t → Reacts (fits m out) m (Parts n) out r m₁ out₁
+      → (fits m out ≡ true) × Goes n f out t 0 m₁ out₁
+  goes_begins m out r t m₁ out₁ is s = go (fits m out) refl (rw is at s)
     where
-      go : (c : Bool) → fits m 0 out ≡ c → StepSays c m 0 n out r m₀ o → Goes c n f m₀ o r asked m₀ o
-      go true e (d, t) = ([], z, λ _. refl, rw d (begun n f m r out o (fitting m out e).0 t))
-      go false e t = (t.0, refl, refl)
+      go : (b : Bool) → fits m out ≡ b → Reacts b m (Parts n) out (Ok t) m₁ out₁ → (b ≡ true) × Goes n f out t 0 m₁ out₁
+      go true e (d, x) =
+          let long = (fitting m out e).0 in
+          (refl, record { questions = []; count = refl; many = many_row n m t out out₁ long x; stage = rw d (begun n f m t out out₁ long x) })
+      go false e (y, _, _) = absurd (let z : ◌≡◌ {A = ℕ} 0 1 = cc in omega arith)
 
-  goes_on : (c : Bool) (m₀ o : List ℕ) (told : Told) (count asked : ℕ) (m out : List ℕ) → told ≡ Ask count → Goes c n f m₀ o told asked m out
-      → (qs : List (List ℕ)) × (c ≡ true) × (asked ≡ length qs) × Asks n f count qs m out
-  goes_on true m₀ o told count asked m out e (qs, c, _, asks k t a) = let same : k ≡ count = cc in (qs, refl, c, rw same at a)
-  goes_on true m₀ o told count asked m out e (qs, c, _, ended w) = absurd (w.none count e)
-  goes_on false m₀ o told count asked m out e (t, u, w) = absurd (let z : ◌≡◌ {A = ℕ} 0 1 = cc in omega arith)
+  goes_on : (o : List ℕ) (told : Told) (count asked : ℕ) (m out : List ℕ) → told ≡ Ask count → (s : Goes n f o told asked m out) → Asks n f count s.questions m out
+  goes_on o told count asked m out e s = go s.stage
+    where
+      go : Stage n f told s.questions m out → Asks n f count s.questions m out
+      go (asks k t a) = let same : k ≡ count = cc in rw same at a
+      go (ended w) = absurd (w.none count e)
 
   -- what it asks of stands in the row, and more may be asked
-  pub goes_asks : (c : Bool) (m₀ o : List ℕ) (told : Told) (count asked : ℕ) (m out : List ℕ) → told ≡ Ask count → Goes c n f m₀ o told asked m out
+  pub goes_asks : (o : List ℕ) (told : Told) (count asked : ℕ) (m out : List ℕ) → told ≡ Ask count → Goes n f o told asked m out
       → (count ≤ length out) × (asked < most)
-  goes_asks c m₀ o told count asked m out e s =
-      let (qs, _, k, a) = goes_on c m₀ o told count asked m out e s in (a.room, omega (arith, asks_few n f count qs m out a))
+  goes_asks o told count asked m out e s =
+      let a = goes_on o told count asked m out e s in (a.room, omega (arith, s.count, asks_more n f count s.questions m out a, (whole_run n f).2))
 
-  pub goes_turn : (m₀ o : List ℕ) (told : Told) (count asked : ℕ) (m out : List ℕ) (v : ℕ) (r : Told) (asked₁ : ℕ) (m₁ out₁ : List ℕ)
-      → length out ≡ length o → told ≡ Ask count → v ≡ f (take count out) → asked₁ ≡ asked + 1
-      → Goes (fits m₀ 0 o) n f m₀ o told asked m out → StepSays (fits m 1 out) m 1 v out r m₁ out₁ → Goes (fits m₀ 0 o) n f m₀ o r asked₁ m₁ out₁
-  goes_turn m₀ o told count asked m out v r asked₁ m₁ out₁ b e h k s t =
-      let (qs, c, k₀, a) = goes_on (fits m₀ 0 o) m₀ o told count asked m out e s in
-      let wide = (fitting m₀ o c).1 in
-      let ready : fits m 1 out ≡ true = and_from _ _ (eq-eqb _ _ a.long) (le-leb _ _ (omega arith)) in
-      rw c (take count out ∷ qs, omega arith, λ z. absurd (omega arith), turn n f count qs m out v out r m₁ out₁ a h ready t)
+  -- an answer is never refused, and leads to the next turn
+  pub goes_turn : (h : Judge) (m₀ o : List ℕ) (told : Told) (count asked : ℕ) (m out : List ℕ) (v : ℕ) (r : Result Told Refusal) (m₁ out₁ : List ℕ)
+      → h ≡ f → fits m₀ o ≡ true → length out ≡ length o → told ≡ Ask count → v ≡ h (take count out)
+      → Goes n f o told asked m out → Reacts (fits m out) m (Said v) out r m₁ out₁ → MatchResult r (λ t. Goes n f o t (asked + 1) m₁ out₁) (λ _. ⊥)
+  goes_turn h m₀ o told count asked m out v r m₁ out₁ same w b e is s x =
+      let a = goes_on o told count asked m out e s in
+      let wide = (fitting m₀ o w).1 in
+      let ready : fits m out ≡ true = and_from _ _ (eq-eqb _ _ a.long) (le-leb _ _ (omega arith)) in
+      let (t, heard, next) = turn n f count s.questions m out v out r m₁ out₁ a (is ∙ ap (λ j. j (take count out)) same) ready x in
+      let more : Goes n f o t (asked + 1) m₁ out₁ = record {
+        questions = take count out ∷ s.questions;
+        count = omega (arith, s.count);
+        many = λ l. absurd (omega (arith, asks_more n f count s.questions m out a, ap (λ (R : Ran). length R.asked) ((whole_run n f).1.many l)));
+        stage = next;
+      } in
+      rw heard more
 
   -- what is told of the whole run says how it ended
-  tells_ends : (out : List ℕ) (r : Ended) (m₁ out₁ : List ℕ) → Tells n f out r m₁ out₁ → Ends n f out r m₁ out₁
+  tells_ends : (out : List ℕ) (r : Result Ended RunError) (m₁ out₁ : List ℕ) → Tells n f out r m₁ out₁ → Ends n f out r m₁ out₁
   tells_ends out r m₁ out₁ v = record {
-    many = λ l. (v.told ∙ ap ended_as (v.kept.many l), v.many l);
+    many = λ l. v.told ∙ ap ended_as (v.kept.many l);
     sound = λ l b. v.told ∙ ap ended_as (v.kept.sound l b);
     left = λ l b.
         let w = v.kept.left l b in
-        let R = run_of v.acts n own f in
-        record {
-          subset = R.rest;
-          asked = length R.asked;
-          told = v.told ∙ rw w.lessened.done;
-          row = v.row;
-          some = w.lessened.some;
-          slim = w.lessened.slim;
-          bounded = w.bounded;
-          few = w.few;
-        };
-    long = v.long;
-    idle = v.idle;
+        record { run = run_of v.acts n own f; told = v.told ∙ rw w.lessened.done; row = v.row; keeps = w };
+    rests = v.rests;
   }
 
-  pub goes_ends : (m₀ m₁ out₀ o : List ℕ) (r : Told) (told : Told) (asked : ℕ) (m out : List ℕ) → length m₁ ≡ length m₀ → length o ≡ length out₀ → length out ≡ length o
-      → StepSays (fits m₀ 0 out₀) m₀ 0 n out₀ r m₁ o → ((k : ℕ) → told ≡ Ask k → ⊥) → Goes (fits m₁ 0 o) n f m₁ o told asked m out
-      → RunSays (fits m₀ 0 out₀) n f m₀ out₀ (end_of told asked) m out × RunTells (fits m₀ 0 out₀) n f out₀ (end_of told asked) m out
-  goes_ends m₀ m₁ out₀ o r told asked m out a b d t not-ask s = go (fits m₀ 0 out₀) refl t (rw (fits_alike m₀ m₁ out₀ o a b) at s)
+  pub goes_ends : (m₀ o : List ℕ) (r : Result Ended RunError) (told : Told) (asked : ℕ) (m out : List ℕ) → fits m₀ o ≡ true → length out ≡ length o
+      → r ≡ end_of told asked → ((k : ℕ) → told ≡ Ask k → ⊥) → Goes n f o told asked m out
+      → RunSays (fits m₀ o) n f m₀ o r m out × RunTells (fits m₀ o) n f o r m out
+  goes_ends m₀ o r told asked m out w b e not-ask s = go s.stage
     where
-      go : (c : Bool) → fits m₀ 0 out₀ ≡ c → StepSays c m₀ 0 n out₀ r m₁ o → Goes c n f m₁ o told asked m out
-          → RunSays c n f m₀ out₀ (end_of told asked) m out × RunTells c n f out₀ (end_of told asked) m out
-      go true e t (qs, c, fresh, asks k x w) = absurd (not-ask k x)
-      go true e (x, t) (qs, c, fresh, ended w) =
-          let v : Tells n f out₀ (end_of told asked) m out = record {
+      go : Stage n f told s.questions m out → RunSays (fits m₀ o) n f m₀ o r m out × RunTells (fits m₀ o) n f o r m out
+      go (asks k x a) = absurd (not-ask k x)
+      go (ended v) =
+          let tells : Tells n f o r m out = record {
             acts = (whole_run n f).0;
-            told = ap (end_of told) c ∙ w.tells;
+            told = e ∙ ap (end_of told) s.count ∙ v.tells;
             kept = (whole_run n f).1;
-            row = w.row;
-            many = λ l.
-                fresh (c ∙ ap (λ (R : Ran). length R.asked) (sym w.on ∙ (whole_run n f).1.many l)) ∙ many_row n m₀ r out₀ o (fitting m₀ out₀ e).0 t l;
-            long = d ∙ b;
-            idle = w.idle;
+            row = v.row;
+            rests = record { many = s.many; long = b; idle = v.idle };
           } in
-          (tells_ends out₀ (end_of told asked) m out v, v)
-      go false e (p, q, t) (x, y, z) = let u = ap (λ (u : Told). end_of u asked) x in ((u, y ∙ q, z ∙ t), u)
+          rw w (tells_ends o r m out tells, tells)
+
+  -- only what doesn't fit is refused
+  pub goes_refused : (m out : List ℕ) (e : Refusal) (r : Result Ended RunError) (m₁ out₁ : List ℕ) → Reacts (fits m out) m (Parts n) out (Err e) m₁ out₁
+      → r ≡ Err error.Unfit → RunSays (fits m out) n f m out r m₁ out₁ × RunTells (fits m out) n f out r m₁ out₁
+  goes_refused m out e r m₁ out₁ s is = go (fits m out) s
+    where
+      go : (b : Bool) → Reacts b m (Parts n) out (Err e) m₁ out₁ → RunSays b n f m out r m₁ out₁ × RunTells b n f out r m₁ out₁
+      go true y = absurd y
+      go false (z, x, y) = ((is, x, y), is)

@@ -1,6 +1,6 @@
 pub mod Table
-pub mod Sets
 pub mod Spelled
+pub mod Sets
 pub mod Rule
 pub mod Chained
 pub mod Kept

@@ -3,7 +3,6 @@ ghost use Rattle.std.specs.Prelude.{◌≡◌};
 ghost use Rattle.judges.specs.Chained.{all_met, chained, need_of};
 
 use super::Judge;
-use super::parts::has;
 
 // Can't tell of what lacks a part that one of its parts needs; of all else it says what another judge says.
 // Part p needs the part `needs[p]`, and nothing if that is p or lies past the end.
@@ -17,23 +16,16 @@ pub struct Chained<'a, J> {
 fn need_of(needs: &[u64], part: u64) -> u64
     ensures { result ≡ need_of needs.now part }
 {
-    if part < needs.len() as u64 {
-        needs[part as usize]
-    } else {
-        part
-    }
+    needs.get(part as usize).copied().unwrap_or(part)
 }
 
 // Whether all that is needed is there.
 fn all_met(needs: &[u64], subset: &[u64]) -> bool
     ensures { result ≡ all_met needs.now subset.now }
 {
-    for p in subset {
-        if !has(subset, need_of(needs, *p)) {
-            return false;
-        }
-    }
-    true
+    subset
+        .iter()
+        .all(|part| subset.contains(&need_of(needs, *part)))
 }
 
 impl<'a, J: Judge> Judge for Chained<'a, J> {

@@ -3,17 +3,17 @@
 
 ghost use Rattle.std.specs.Prelude.{◌≡◌, ℕ, List};
 ghost use Rattle.judges.specs.Rule.{RuleTurns};
-ghost use Rattle.judges.specs.Sets.{SetsGrow, SetsSpelled};
-ghost use Rattle.judges.specs.Spelled.{ListsSpelled};
+ghost use Rattle.judges.specs.Sets.{SetsGrow};
+ghost use Rattle.judges.specs.Spelled.{ListsSpelled, SetsSpelled};
 ghost use Rattle.judges.specs.Table.{OwnPlace};
 
 pub use chained::Chained;
 pub use counted::Counted;
-pub use driver::{Ended, run};
+pub use driver::{Ended, RunError, run};
 pub use parts::all_in;
 pub use rule::Rule;
 pub use sets::Sets;
-pub use spelled::first_list;
+pub use spelled::{RowLists, first_list, lists};
 pub use table::Table;
 
 mod chained;
@@ -26,6 +26,8 @@ mod spelled;
 mod table;
 
 // A judge means a function from subsets to numbers, and says what it means; saying it does not change what it means.
+// Numbers and not a verdict: the reducer takes any number for an answer, and is right for every such function.
+// Who holds a judge by `&mut` promises `same` again: no law speaks of what a call leaves, and no type in a signature can carry a meaning that the caller picks.
 pub trait Judge {
     ghost meaning: { Self → List ℕ → ℕ };
 

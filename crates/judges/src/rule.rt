@@ -2,10 +2,9 @@
 ghost use Rattle.judges.specs.Rule.{ruled};
 
 use super::Judge;
-use super::parts::has;
 
 // Fails what has at least so many parts and not the forbidden one.
-#[derive(Clone, Copy)]
+#[derive(Clone, Copy, Debug, PartialEq, Eq)]
 pub struct Rule {
     pub least: u64,
     pub forbidden: u64,
@@ -15,10 +14,6 @@ impl Judge for Rule {
     ghost meaning = { λ r. ruled r.least r.forbidden };
 
     fn says(&mut self, subset: &[u64]) -> u64 {
-        if self.least <= subset.len() as u64 && !has(subset, self.forbidden) {
-            1
-        } else {
-            0
-        }
+        u64::from(self.least <= subset.len() as u64 && !subset.contains(&self.forbidden))
     }
 }

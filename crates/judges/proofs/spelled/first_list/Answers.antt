@@ -1,8 +1,14 @@
-use Rattle.judges.proofs.Listed.{first_of, none_of}
+use Rattle.std.proofs.Common.{ap, ◌∙◌}
+use Rattle.std.proofs.lemmas.List.{nil_from_length, take_min, drop_min}
+use Rattle.judges.specs.Spelled.{lists_of}
+use Rattle.judges.proofs.Listed.{first_of, one_by_one}
 use Rattle.judges.proofs.spelled.first_list.Goals as goal
 
-pub returns-in_default : goal.returns-in_default
-returns-in_default c = none_of _ c.in_default.ensures.cases
+pub returns-in_err-count : goal.returns-in_err-count
+returns-in_err-count c = rw c.from_residual.ensures (ap lists_of (nil_from_length _ c.in_err-count.ensures.cases) ∙ one_by_one.0)
 
 pub returns : goal.returns
-returns c = first_of _ _ _ _ _ c.in-Some.ensures.cases.0 c.cut.ensures.first c.cut.ensures.rest
+returns c =
+    let numbers = c.in_ok-count.numbers.now in
+    let count = c.in_ok-count.count.now in
+    first_of _ _ _ _ _ c.in_ok-count.ensures.cases.0 (c.split_at.ensures.front ∙ rw c.min.ensures (take_min count numbers)) (c.split_at.ensures.back ∙ rw c.min.ensures (drop_min count numbers))
