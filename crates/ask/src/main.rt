@@ -6,7 +6,7 @@ ghost use Rattle.std.specs.Prelude.{◌≡◌, take, IfOk};
 use anyhow::{Context, anyhow, bail, ensure};
 use dialog::lines::{Left, Question};
 use dialog::reading::{self, SizeError};
-use reduce::{Told, step};
+use reduce::{Event, Told, react};
 use std::alloc::Global;
 use std::fmt::Display;
 use std::io::{BufRead, BufReader, ErrorKind, Stdin, Write};
@@ -28,8 +28,10 @@ struct Machine {
 }
 
 impl Machine {
-    fn step(&mut self, kind: u64, number: u64) -> Told {
-        step(&mut self.memory, kind, number, &mut self.out)
+    fn react(&mut self, event: Event) -> anyhow::Result<Told> {
+        react(&mut self.memory, event, &mut self.out).map_err(|_| anyhow!(
+            "inner error: the machine refuses to go on"
+        ))
     }
 
     // The first `count` numbers of what the machine wrote.
@@ -55,7 +57,6 @@ fn asks(rt: &HostRuntime, machine: &Machine, told: Told) -> anyhow::Result<bool>
         Told::Rest(count) => say(rt, Left(machine.parts(count)?))?,
         Told::Sound => say(rt, "sound")?,
         Told::TooMany => say(rt, "too many")?,
-        Told::No(_) => bail!("inner error: the machine refuses to go on"),
     }
     Ok(matches!(told, Told::Ask(_)))
 }
@@ -73,7 +74,7 @@ fn talk(
     for line in lines {
         let line = line?;
         if let Some(verdict) = reading::verdict_in(line.as_slice()) {
-            told = machine.step(1, verdict.number());
+            told = machine.react(Event::Said(verdict.into()))?;
         } else {
             let text = String::from_utf8_lossy(rt.alloc(), line.as_slice())?;
             eprintln!(rt; "no answer: {text:?}; {UNDERSTOOD}")?;
@@ -116,7 +117,7 @@ fn run(rt: &HostRuntime) -> anyhow::Result<ExitCode> {
         out: [0; 4096],
     };
     let told = match reading::size_in(given.as_slice()) {
-        Ok(count) => machine.step(0, count),
+        Ok(count) => machine.react(Event::Parts(count))?,
         Err(SizeError::TooMany) => Told::TooMany,
         Err(SizeError::NoNumber) => return refuse(rt, given.as_slice()),
     };
