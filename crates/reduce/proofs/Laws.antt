@@ -158,13 +158,9 @@ heard_placed s ks b e p q h =
     let r : Ready p.at = subst (λ (r : Pass). Ready r.at) (sym q) (heard_ready (cut_at s (length ks)) s b) in
     true_placed p.at (length p.held) 4096 (record { most = omega arith; ahead = r h; inside = z.high; fewer = z.fewer; old = z.old })
 
--- what `hear` and `cut` answer of numbers that fit
+-- what `hear` answers of numbers that fit
 pub hear_after : (s : Search) (k k₀ : ℕ) (b : Bool) (o : Option Search) (r : Search) → k₀ ≡ k → sane s k 4096 ≡ true
     → o ≡ given (sane s k₀ 4096) (heard (cut_at s k₀) s b) → o ≡ Some r → r ≡ heard (cut_at s k) s b
 hear_after s k k₀ b o r q z e₁ e₂ =
-    let e = e₁ ∙ ap (λ n. given (sane s n 4096) (heard (cut_at s n) s b)) q ∙ ap (λ v. given v (heard (cut_at s k) s b)) z in cc
-
-pub cut_after : (s : Search) (k k₀ : ℕ) (o : Option ℕ) (r : ℕ) → k₀ ≡ k → sane s k 4096 ≡ true
-    → o ≡ given (placed s k₀ 4096) (cut_at s k₀) → o ≡ Some r → r ≡ cut_at s k
-cut_after s k k₀ o r q z e₁ e₂ =
-    let e = e₁ ∙ ap (λ n. given (placed s n 4096) (cut_at s n)) q ∙ ap (λ v. given v (cut_at s k)) (and_parts (placed s k 4096) _ z).0 in cc
+    let e : Some (heard (cut_at s k) s b) ≡ Some r = ap (λ v. given v (heard (cut_at s k) s b)) (sym z) ∙ ap (λ n. given (sane s n 4096) (heard (cut_at s n) s b)) (sym q) ∙ sym e₁ ∙ e₂ in
+    cc

@@ -1,14 +1,13 @@
 -- The memory's two parts, the header and the words, and what a write to either leaves.
-use Rattle.std.proofs.Common.{◌≡◌, ℕ, suc, ◌+◌, ◌*◌, ◌^◌, ◌<◌, Bool, true, List, [], ◌∷◌, length, get_or, set, Option, sym, refl, ap, ◌∙◌, subst, arith}
+use Rattle.std.proofs.Common.{◌≡◌, ℕ, suc, ◌+◌, ◌*◌, ◌^◌, ◌<◌, Bool, true, List, [], ◌∷◌, length, get_or, set, sym, refl, ap, ◌∙◌, subst, arith}
 use borrow.Rule.Slice.PartMut.{put_mid}
-use Rattle.std.proofs.lemmas.Bool.{and_from, le-leb}
 use Rattle.std.proofs.lemmas.List.{take_all}
 use Rattle.std.proofs.lemmas.Slice.{between-put_mid}
 use Rattle.subset.specs.Row.{members, cut_out, words_of}
-use Rattle.subset.specs.Says.{After, Holds, Told, room}
+use Rattle.subset.specs.Says.{After, Holds, room}
 use Rattle.subset.proofs.Lists.{row_from, without_at}
-use Rattle.subset.proofs.Words.{words_members, some_of_members}
-use Rattle.bisect.specs.Stand.{noted, placed, asked, askable}
+use Rattle.subset.proofs.Words.{length_words, words_members, some_of_members}
+use Rattle.bisect.specs.Stand.{noted}
 use Rattle.bisect.proofs.Asking.{has_room}
 use Rattle.bisect.specs.declared.Search.{Search}
 use Rattle.reduce.specs.Own.{Header, row, headed, held, kept}
@@ -34,21 +33,18 @@ header_kept h s (a ∷ b ∷ c ∷ d ∷ e ∷ f ∷ g ∷ i ∷ ws) l small =
     ∙ ap (λ v. headed h s (words_of 64 (members v))) (sym (take_all 64 ws (omega arith)))
 
 -- ---- what the functions on rows say of 64 words
-pub done : (r : Bool) (ws ks ws₁ : List ℕ) → r ≡ true → After r ws ks ws₁ → Holds ws₁ (length ws) ks
-done r ws ks ws₁ e a = subst (λ (b : Bool). After b ws ks ws₁) e a
+-- all that the words tell has room
+pub row_room : (m out : List ℕ) → length m ≡ 72 → length out ≡ 4096 → room (row m) out ≡ true
+row_room m out h k = has_room (row m) out (omega (arith, row_length m h)) (omega arith)
+
+-- what a change of the words leaves is held
+pub held_put : (b : Bool) (m ys ks : List ℕ) → length m ≡ 72 → b ≡ true → After b (row m) ks ys → held (put_mid 8 64 m ys) ≡ ks
+held_put b m ys ks h e a =
+    let w : Holds ys (length (row m)) ks = subst (λ (c : Bool). After c (row m) ks ys) e a in
+    ap members (row_put m ys h (ap length w.row ∙ length_words (length (row m)) ks ∙ row_length m h)) ∙ w.left
 
 -- cutting out one rank is leaving one out
 pub cut_one : (ws : List ℕ) (i : ℕ) → i < length (members ws) → cut_out i (i + 1) (members ws) ≡ less i (members ws)
 cut_one ws i h =
     ap (λ k. cut_out i k (members ws)) (let z : i + 1 ≡ suc i = omega arith in z)
     ∙ sym (without_at 0 (64 * length ws) (members ws) i h (row_from (64 * length ws) (members ws) (some_of_members ws (length ws) refl)))
-
--- the members of a whole memory have room in a whole row; so has the question at a cut
-pub told_held : (m out : List ℕ) (r : Option ℕ) (out₁ : List ℕ) → length m ≡ 72 → length out ≡ 4096 → Told (room (row m) out) (held m) out r out₁ → Told true (held m) out r out₁
-told_held m out r out₁ l h t = subst (λ (b : Bool). Told b (held m) out r out₁) (has_room (row m) out (omega (arith, row_length m l)) (omega arith)) t
-
-pub told_asked : (s : Search) (m out : List ℕ) (r : Option ℕ) (out₁ : List ℕ) → length m ≡ 72 → length out ≡ 4096 → placed s (length (held m)) 4096 ≡ true
-    → Told (askable s (row m) out) (asked s (held m)) out r out₁ → Told true (asked s (held m)) out r out₁
-told_asked s m out r out₁ l h p t =
-    subst (λ (b : Bool). Told b (asked s (held m)) out r out₁)
-    (and_from _ _ (le-leb (length (row m)) 64 (omega (arith, row_length m l))) (and_from _ _ p (le-leb 4096 (length out) (omega arith)))) t

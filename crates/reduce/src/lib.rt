@@ -10,7 +10,7 @@ ghost use Rattle.subset.specs.Parts.{all_parts};
 ghost use Rattle.subset.specs.Row.{cut_out, members};
 ghost use Rattle.reduce.specs.Entry.{Does, Heard, Reacts, StepSays, event, fault_of, fits};
 ghost use Rattle.reduce.specs.Examples.{EachHolds, Examples};
-ghost use Rattle.reduce.specs.Own.{bare, fault, held, moved, nowhere, own, stage, stands, stored};
+ghost use Rattle.reduce.specs.Own.{fault, held, moved, nowhere, own, stage, stands, stored};
 ghost use Rattle.reduce.specs.Start.{FromAny, FromCuts, NestedTrial};
 ghost use Rattle.reduce.specs.State.{go_on, less, next, trial};
 
@@ -106,12 +106,6 @@ fn nowhere() -> Search
     Search::fresh(0)
 }
 
-fn bare(at: Search) -> bool
-    ensures { result ≡ bare at }
-{
-    at.lo == 0 && at.row == 0 && at.begun == 0 && at.spent == 0 && at.sure == 0
-}
-
 impl Stage {
     // Refused where no run leaves such numbers beside the words.
     #[tactic(auto, unfolding(crate::specs::Own::stage))]
@@ -123,10 +117,12 @@ impl Stage {
         let index = memory[INDEX];
         let count = count(memory);
         match memory[PHASE] {
-            IDLE if size == 0 && index == 0 && bare(at) => Ok(Stage::Idle),
-            FIRST if index == 0 && bare(at) && size == count && count <= MOST => Ok(Stage::First),
+            IDLE if size == 0 && index == 0 && at == nowhere() => Ok(Stage::Idle),
+            FIRST if index == 0 && at == nowhere() && size == count && count <= MOST => Ok(
+                Stage::First,
+            ),
             SEEK if index == 0 && at.is_sane(count, size) => Ok(Stage::Seek(at)),
-            TRIAL if bare(at) && index < count && count <= size && size <= MOST => {
+            TRIAL if at == nowhere() && index < count && count <= size && size <= MOST => {
                 Ok(Stage::Trial(index))
             }
             _ => Err(Refusal::Torn),
@@ -156,6 +152,7 @@ fn count(memory: &Memory) -> u64
     subset::count(&memory[WORDS..LENGTH]).unwrap()
 }
 
+#[tactic(auto, using(crate::proofs::Memory::row_room))]
 fn tell(memory: &Memory, out: &mut Row) -> u64
     ensures count { result ≡ length (held memory.now) }
     ensures told { out.new ≡ held memory.now ++ drop (length (held memory.now)) out.old }
@@ -255,6 +252,7 @@ fn begins(memory: &mut Memory, n: u64, out: &mut Row) -> Told
 }
 
 // Where the question at the cut fails, keeps only what it asked of.
+#[tactic(auto, unfolding(bisect::specs::Search::keep))]
 fn keep_asked(memory: &mut Memory, at: Search, fails: bool)
     requires { sane at (length (held memory.old)) 4096 ≡ true }
     ensures { held memory.new ≡ (if fails then asked at (held memory.old) else held memory.old) }

@@ -1,15 +1,11 @@
-use Rattle.std.proofs.Common.{◌≡◌, ℕ, List, length, ap, ◌∙◌, arith}
+use Rattle.std.proofs.Common.{arith}
 use Rattle.std.proofs.lemmas.Bool.{and_from, le-leb}
-use Rattle.subset.specs.Row.{members}
-use Rattle.reduce.specs.Own.{row}
+use Rattle.reduce.proofs.Memory.{held_put}
 use Rattle.reduce.proofs.Stored.{row_length}
-use Rattle.reduce.proofs.Memory.{done, row_put}
 use Rattle.reduce.proofs.fill.Goals as goal
 
 pub returns : goal.returns
 returns c =
-    let m : List ℕ = c.args.memory.now in
-    let ys : List ℕ = c.fill.new.words in
-    let n : length (row m) ≡ 64 = row_length m c.told-memory in
-    let size : length ys ≡ 64 = omega arith in
-    ap (λ ws. members ws) (row_put m ys c.told-memory size) ∙ (done _ _ _ _ (and_from _ _ (le-leb _ 64 (omega arith)) (le-leb c.args.n _ (omega (arith, c.requires)))) c.fill.ensures.after).left
+    let m = c.args.memory.now in
+    let long = row_length m c.told-memory in
+    held_put _ m c.fill.new.words _ c.told-memory (and_from _ _ (le-leb _ 64 (omega arith)) (le-leb c.args.n _ (omega (arith, c.requires)))) c.fill.ensures.after
