@@ -21,12 +21,12 @@ use Rattle.reduce.proofs.Stored.{step_said}
 use Rattle.reduce.proofs.Steady.{steady}
 use Rattle.reduce.proofs.Reduces.{sharp}
 use Rattle.judges.specs.Kept.{Kept}
-use Rattle.judges.specs.Driver.{most, Ends, RunSays}
+use Rattle.judges.specs.Driver.{most}
 use Rattle.judges.specs.declared.driver.Ended.{Ended}
 use Rattle.judges.specs.declared.driver.Ended.TheVariants as ended_by
 use Rattle.judges.specs.declared.driver.RunError.{RunError}
 use Rattle.judges.specs.declared.driver.RunError.TheVariants as error
-use Rattle.judges.specs.Whole.{ended_as, run_told, Tells, RunTells}
+use Rattle.judges.specs.Whole.{ended_as, run_told}
 use Rattle.judges.proofs.Shown.{shown}
 
 -- ---- what each subset that is asked keeps holds of all that was asked
@@ -287,40 +287,3 @@ module _ (n : ℕ) (f : Judge) where
         stage = next;
       } in
       rw heard more
-
-  -- what is told of the whole run says how it ended
-  tells_ends : (out : List ℕ) (r : Result Ended RunError) (m₁ out₁ : List ℕ) → Tells n f out r m₁ out₁ → Ends n f out r m₁ out₁
-  tells_ends out r m₁ out₁ v = record {
-    many = λ l. v.told ∙ ap ended_as (v.kept.many l);
-    sound = λ l b. v.told ∙ ap ended_as (v.kept.sound l b);
-    left = λ l b.
-        let w = v.kept.left l b in
-        record { run = run_of v.acts n own f; told = v.told ∙ rw w.lessened.done; row = v.row; keeps = w };
-    rests = v.rests;
-  }
-
-  pub goes_ends : (m₀ o : List ℕ) (r : Result Ended RunError) (told : Told) (asked : ℕ) (m out : List ℕ) → fits m₀ o ≡ true → length out ≡ length o
-      → r ≡ end_of told asked → ((k : ℕ) → told ≡ Ask k → ⊥) → Goes n f o told asked m out
-      → RunSays (fits m₀ o) n f m₀ o r m out × RunTells (fits m₀ o) n f o r m out
-  goes_ends m₀ o r told asked m out w b e not-ask s = go s.stage
-    where
-      go : Stage n f told s.questions m out → RunSays (fits m₀ o) n f m₀ o r m out × RunTells (fits m₀ o) n f o r m out
-      go (asks k x a) = absurd (not-ask k x)
-      go (ended v) =
-          let tells : Tells n f o r m out = record {
-            acts = (whole_run n f).0;
-            told = e ∙ ap (end_of told) s.count ∙ v.tells;
-            kept = (whole_run n f).1;
-            row = v.row;
-            rests = record { many = s.many; long = b; idle = v.idle };
-          } in
-          rw w (tells_ends o r m out tells, tells)
-
-  -- only what doesn't fit is refused
-  pub goes_refused : (m out : List ℕ) (e : Refusal) (r : Result Ended RunError) (m₁ out₁ : List ℕ) → Reacts (fits m out) m (Parts n) out (Err e) m₁ out₁
-      → r ≡ Err error.Unfit → RunSays (fits m out) n f m out r m₁ out₁ × RunTells (fits m out) n f out r m₁ out₁
-  goes_refused m out e r m₁ out₁ s is = go (fits m out) s
-    where
-      go : (b : Bool) → Reacts b m (Parts n) out (Err e) m₁ out₁ → RunSays b n f m out r m₁ out₁ × RunTells b n f out r m₁ out₁
-      go true y = absurd y
-      go false (z, x, y) = ((is, x, y), is)
