@@ -1,9 +1,9 @@
 -- The subsets of a few parts, by their numbers.
-use Rattle.std.proofs.Common.{◌≡◌, ℕ, zero, suc, ◌+◌, ◌*◌, ◌/◌, ◌%◌, ◌^◌, ◌<◌, ◌≤◌, Bool, true, false, cond, ◌&&◌, ltb, ◌⊎◌, List, [], ◌∷◌, get_or, Decides, sym, refl, ap, ◌∙◌, subst, inl, inr, add-one, arith, pow_pos, pow_mono}
+use Rattle.std.proofs.Common.{◌≡◌, ℕ, zero, suc, ◌+◌, ◌*◌, ◌/◌, ◌%◌, ◌^◌, ◌<◌, ◌≤◌, Bool, true, false, cond, ◌&&◌, ltb, ◌⊎◌, List, [], ◌∷◌, get_or, Decides, sym, refl, ap, ◌∙◌, subst, inl, inr, arith, pow_pos, pow_mono}
 use Rattle.std.proofs.lemmas.Bool.{and_parts, and_from, both_ways, cases_lt, ltb-true, lt-ltb}
 use Rattle.subset.specs.Parts.{all_parts, some_of, has, within}
 use Rattle.subset.specs.Row.{digit, bit, number, word_by, words_by, words_of}
-use Rattle.subset.proofs.Lists.{row_from, row_to, row_wider, every_append, every_cons, every_has, has_every}
+use Rattle.subset.proofs.Lists.{row_from, row_to, row_wider, every_has, has_every}
 use Rattle.subset.proofs.Order.{must_false, past}
 use Rattle.subset.proofs.Changes.{has_all}
 use Rattle.subset.proofs.Digits.{digit_small}
@@ -11,22 +11,15 @@ use Rattle.subset.proofs.Words.{has_members, some_of_members, members_words}
 use Rattle.subset.specs.Laws.{EqualSame}
 use Rattle.subset.proofs.Stands.{equal_same}
 use Rattle.bisect.specs.Judge.{Judge, fails, Monotone, Least}
-use Rattle.inspect.specs.Exhaustive.{coded, implies, of_first, of_all, larger_fails, grown, grows, spares, spared}
+use Rattle.inspect.specs.Exhaustive.{coded, implies, Tried, of_all, larger_fails, grown, grows, spares, spared}
 
--- ---- the turns of a loop over the numbers
-pub first_none : (p : List ℕ → Bool) → of_first 0 p ≡ true
-unfolding all_parts
-first_none p = refl
-
-pub first_more : (p : List ℕ → Bool) (i : ℕ) → of_first i p ≡ true → p (coded i) ≡ true → of_first (i + 1) p ≡ true
-unfolding all_parts
-first_more p i h e =
-    rw (add-one i) (every_append (λ c. p (coded c)) (all_parts i) (i ∷ []) h (every_cons (λ c. p (coded c)) i [] e (refl)))
-
--- one that is below a number breaks it
-pub first_broken : (p : List ℕ → Bool) (end i : ℕ) → i < end → p (coded i) ≡ false → of_first end p ≡ false
-first_broken p end i l e =
-    must_false (of_first end p) (λ h. both_ways _ e (has_every (λ c. p (coded c)) (all_parts end) i h (has_all end i ∙ lt-ltb i end l)))
+-- ---- what a call for each number gave
+pub tried : (p : List ℕ → Bool) (n : ℕ) (r : Bool) (gave : ℕ → Bool → Type 0) → Tried gave n r → ((c : ℕ) (b : Bool) → c < 2 ^ n → gave c b → b ≡ p (coded c)) → r ≡ of_all n p
+unfolding Tried
+tried p n true gave all h =
+    sym (every_has (λ c. p (coded c)) (all_parts (2 ^ n)) (λ c e. let l = ltb-true c (2 ^ n) (sym (has_all (2 ^ n) c) ∙ e) in sym (h c true l (all c l))))
+tried p n false gave (c, l, e) h =
+    sym (must_false (of_all n p) (λ all. both_ways _ (sym (h c false l e)) (has_every (λ i. p (coded i)) (all_parts (2 ^ n)) c all (has_all (2 ^ n) c ∙ lt-ltb c (2 ^ n) l))))
 
 -- ---- the numbers below 2^n are those of the subsets of n parts
 number_below : (f : ℕ → Bool) (k n : ℕ) → ((b : ℕ) → n ≤ b → f b ≡ false) → number f k < 2 ^ n

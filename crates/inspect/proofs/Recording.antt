@@ -1,38 +1,41 @@
 -- What a recording rests on.
-use Rattle.std.proofs.Common.{◌≡◌, ℕ, zero, suc, ◌+◌, ◌<◌, ◌≤◌, Bool, true, false, eqb, List, [], ◌∷◌, ◌++◌, reverse, length, take, drop, set, Some, None, sym, refl, ap, ◌∙◌, subst, ap₂, inl, inr, append_assoc, append-nil, arith, length-append, length-set, take_at}
+use Rattle.std.proofs.Common.{◌≡◌, ℕ, suc, ◌+◌, ◌<◌, ◌≤◌, Bool, true, false, List, [], ◌∷◌, ◌++◌, reverse, length, take, drop, set, Some, None, Option, Ok, Err, Result, sym, refl, ap, ◌∙◌, subst, ap₂, inl, inr, append_assoc, append-nil, arith, length-append, length-set, take_at}
 use borrow.Rule.Slice.PartMut.{put_mid}
 use Rattle.std.proofs.lemmas.List.{take_more_set, drop-drop, drop-set-lt, length-take-le, reverse-append}
 use Rattle.subset.specs.Says.{laid}
 use Rattle.bisect.specs.Judge.{Judge}
-use Rattle.bisect.specs.Engine.{Event, parts, said, Act, ask, left, sound, refused}
-use Rattle.reduce.specs.Own.{own, fault}
-use Rattle.reduce.specs.Entry.{ActTold, Heard, ByKind, StepSays}
+use Rattle.bisect.specs.Engine.{Act, ask, left, sound, refused}
+use Rattle.reduce.specs.Own.{own}
+use Rattle.reduce.specs.Entry.{ActTold, Heard, Reacts, event_of, fault_of}
+use Rattle.reduce.specs.declared.Event.{Event}
+use Rattle.reduce.specs.declared.Event.TheVariants.{Parts, Said}
+use Rattle.reduce.specs.declared.Refusal.{Refusal}
+use Rattle.reduce.specs.declared.Refusal.TheVariants.{Unfit}
 use Rattle.reduce.specs.declared.Told.{Told}
-use Rattle.reduce.specs.declared.Told.TheVariants.{Ask, Rest, Sound, TooMany, No}
+use Rattle.reduce.specs.declared.Told.TheVariants.{Ask, Rest, Sound, TooMany}
 use Rattle.judges.specs.Spelled.{spelled}
-use Rattle.inspect.specs.Recorder.{Roomy, AppendSays, Dialogue, Stopped, RecordSays, end_by, left_by}
-use Rattle.inspect.specs.declared.recorder.Recorded.{Recorded}
+use Rattle.inspect.specs.Recorder.{Roomy, AppendSays, Dialogue, Stopped, Exchanged}
 use Rattle.judges.proofs.Shown.{shown}
 
 -- ---- what a step tells of stands in the row
-act_roomy : (a : Act) (r : Told) (out row : List ℕ) → ActTold a r out row → Roomy r (length row)
+act_roomy : (a : Act) (t : Told) (out row : List ℕ) → ActTold a t out row → Roomy (Ok t) (length row)
 unfolding ActTold
 act_roomy (ask ks) r out row (e, t) = rw e (shown ks out row t).1
 act_roomy (left ks) r out row (e, t) = rw e (shown ks out row t).1
 act_roomy sound r out row (e, t) = rw e tt
 act_roomy refused r out row (e, t) = rw e tt
 
-heard_roomy : (z : ℕ) (m : List ℕ) (v : ℕ) (out : List ℕ) (r : Told) (m₁ row : List ℕ) → Heard z m v out r m₁ row → Roomy r (length row)
-heard_roomy zero m v out r m₁ row (d, t) = act_roomy (own.step m (said v)).act r out row t
-heard_roomy (suc k) m v out r m₁ row (e, d, t) = rw e tt
+refused_roomy : (e : Refusal) (r : Result Told Refusal) (row : List ℕ) → r ≡ Err e → Roomy r (length row)
+refused_roomy e r row h = rw h tt
 
-kind_roomy : (b : Bool) (m : List ℕ) (v : ℕ) (out : List ℕ) (r : Told) (m₁ row : List ℕ) → ByKind b m v out r m₁ row → Roomy r (length row)
-kind_roomy true m v out r m₁ row (d, t) = act_roomy (own.step m (parts v)).act r out row t
-kind_roomy false m v out r m₁ row t = heard_roomy (fault m) m v out r m₁ row t
+heard_roomy : (z : Option Refusal) (m : List ℕ) (ev : Event) (out : List ℕ) (r : Result Told Refusal) (m₁ row : List ℕ) → Heard z m ev out r m₁ row → Roomy r (length row)
+heard_roomy None m ev out (Ok t) m₁ row (d, told) = act_roomy (own.step m (event_of ev)).act t out row told
+heard_roomy None m ev out (Err e) m₁ row h = absurd h
+heard_roomy (Some e) m ev out r m₁ row h = refused_roomy e r row h.0
 
-pub step_roomy : (b : Bool) (m : List ℕ) (k v : ℕ) (out : List ℕ) (r : Told) (m₁ row : List ℕ) → StepSays b m k v out r m₁ row → Roomy r (length row)
-step_roomy true m k v out r m₁ row t = kind_roomy (eqb k 0) m v out r m₁ row t
-step_roomy false m k v out r m₁ row (e, d, t) = rw e tt
+pub react_roomy : (b : Bool) (m : List ℕ) (ev : Event) (out : List ℕ) (r : Result Told Refusal) (m₁ row : List ℕ) → Reacts b m ev out r m₁ row → Roomy r (length row)
+react_roomy true m ev out r m₁ row h = heard_roomy (fault_of m ev) m ev out r m₁ row h
+react_roomy false m ev out r m₁ row h = refused_roomy Unfit r row h.0
 
 -- ---- an exchange in the row
 entry_front : (row : List ℕ) (i x a : ℕ) → i + 1 < length row → take (i + 2) (set (set row i x) (i + 1) a) ≡ take i row ++ (x ∷ a ∷ [])
@@ -66,20 +69,20 @@ spelled_push [] e = ap (λ (l : List ℕ). length e ∷ l) (append-nil e)
 spelled_push (d ∷ es) e =
     ap (λ (l : List ℕ). length d ∷ (d ++ l)) (spelled_push es e) ∙ ap (λ (l : List ℕ). length d ∷ l) (sym (append_assoc d (spelled es) (length e ∷ e)))
 
-module _ {S : Type 0} (does : S → Event → S → Told → List ℕ → Type 0) (f : Judge) where
+module _ {S : Type 0} (does : S → Event → S → Result Told Refusal → List ℕ → Type 0) (f : Judge) where
   -- begun where one thing holds, it was begun where what follows from that does
-  begun_so : (A B : S → Told → List ℕ → Type 0) (es : List (List ℕ)) (t : S) (r : Told) (row : List ℕ) → ((u : S) (q : Told) (out : List ℕ) → A u q out → B u q out)
+  begun_so : (A B : S → Result Told Refusal → List ℕ → Type 0) (es : List (List ℕ)) (t : S) (r : Result Told Refusal) (row : List ℕ) → ((u : S) (q : Result Told Refusal) (out : List ℕ) → A u q out → B u q out)
       → Dialogue does f A es t r row → Dialogue does f B es t r row
   unfolding Dialogue
   begun_so A B [] t r row h d = h t r row d
   begun_so A B (e ∷ es) t r row h (u, before, d, q, a, m) = (u, before, begun_so A B es u _ before h d, q, a, m)
 
-module _ {S : Type 0} (does : S → Event → S → Told → List ℕ → Type 0) (f : Judge) (s : S) (first : Told) (begun : List ℕ) where
+module _ {S : Type 0} (does : S → Event → S → Result Told Refusal → List ℕ → Type 0) (f : Judge) (s : S) (first : Result Told Refusal) (begun : List ℕ) where
   -- here, where the loop begins
-  abbrev Here : S → Told → List ℕ → Type 0
+  abbrev Here : S → Result Told Refusal → List ℕ → Type 0
   Here t r row = (t ≡ s) × (r ≡ first) × (row ≡ begun)
 
-  pub record Going (asked used : ℕ) (t : S) (r : Told) (row out : List ℕ) : Type 0 where
+  pub record Going (asked used : ℕ) (t : S) (r : Result Told Refusal) (row out : List ℕ) : Type 0 where
     pub exchanges : List (List ℕ)
     pub dialogue : Dialogue does f Here (reverse exchanges) t r out
     pub spells : take used row ≡ spelled exchanges
@@ -91,20 +94,18 @@ module _ {S : Type 0} (does : S → Event → S → Told → List ℕ → Type 0
   unfolding Dialogue spelled
   going_begins row h = record { exchanges = []; dialogue = (refl, refl, refl); spells = refl; counted = refl; used_low = omega arith; roomy = h }
 
-  going_asks : (asked used k : ℕ) (t : S) (r : Told) (row out : List ℕ) → r ≡ Ask k → Going asked used t r row out → Going asked used t (Ask k) row out
-  going_asks asked used k t r row out e g = subst (λ (x : Told). Going asked used t x row out) e g
+  going_asks : (asked used k : ℕ) (t : S) (r : Result Told Refusal) (row out : List ℕ) → r ≡ Ok (Ask k) → Going asked used t r row out → Going asked used t (Ok (Ask k)) row out
+  going_asks asked used k t r row out e g = subst (λ (x : Result Told Refusal). Going asked used t x row out) e g
 
-  pub going_turn : (asked used k v end : ℕ) (t u : S) (q r : Told) (row row₁ out out₁ : List ℕ) → q ≡ Ask k → Going asked used t q row out → length row₁ ≡ length row → v ≡ f (take k out)
-      → AppendSays row used v (take k out) (Some end) row₁ → does t (said v) u r out₁ → Roomy r (length out₁) → Going (asked + 1) end u r row₁ out₁
+  pub going_turn : (asked used v end : ℕ) (t u : S) (q : List ℕ) (was r : Result Told Refusal) (row row₁ out out₁ : List ℕ) → was ≡ Ok (Ask (length q)) → take (length q) out ≡ q
+      → Going asked used t was row out → length row₁ ≡ length row → v ≡ f q → AppendSays row used v q (Some end) row₁ → does t (Said v) u r out₁ → Roomy r (length out₁)
+      → Going (asked + 1) end u r row₁ out₁
   unfolding Dialogue
-  going_turn asked used k v end t u was r row row₁ out out₁ asks on same says (at, fit, put) d h =
-      let g = going_asks asked used k t was row out asks on in
-      let q : List ℕ = take k out in
-      let size : length q ≡ k = length-take-le k out g.roomy in
+  going_turn asked used v end t u q was r row row₁ out out₁ asks is on same says (at, fit, put) d h =
+      let g = going_asks asked used (length q) t was row out asks on in
       record {
         exchanges = g.exchanges ++ (v ∷ q) ∷ [];
-        dialogue = subst (λ (es : List (List ℕ)). Dialogue does f Here es u r out₁) (sym (reverse-append g.exchanges ((v ∷ q) ∷ [])))
-            (t, out, subst (λ (j : ℕ). Dialogue does f Here (reverse g.exchanges) t (Ask j) out) (sym size) g.dialogue, ap (λ j. take j out) size, says, d);
+        dialogue = subst (λ (es : List (List ℕ)). Dialogue does f Here es u r out₁) (sym (reverse-append g.exchanges ((v ∷ q) ∷ []))) (t, out, g.dialogue, is, says, d);
         spells = ap (take end) put ∙ laid_front row used end (suc (length q) ∷ v ∷ q) g.used_low (omega arith) ∙ ap (λ (l : List ℕ). l ++ (suc (length q) ∷ v ∷ q)) g.spells
             ∙ sym (spelled_push g.exchanges (v ∷ q));
         counted = length-append g.exchanges ((v ∷ q) ∷ []) ∙ ap (λ j. j + 1) g.counted;
@@ -113,50 +114,38 @@ module _ {S : Type 0} (does : S → Event → S → Told → List ℕ → Type 0
       }
 
   -- where the exchange has no room
-  pub going_full : (asked used k v limit : ℕ) (t : S) (r : Told) (row row₁ out : List ℕ) → r ≡ Ask k → Going asked used t r row out → AppendSays row used v (take k out) None row₁
-      → Going asked used t (Ask k) row₁ out × Stopped (Ask k) asked limit used (length row₁)
-  going_full asked used k v limit t r row row₁ out asks on (same, full) =
-      let g = going_asks asked used k t r row out asks on in
-      (subst (λ (x : List ℕ). Going asked used t (Ask k) x out) (sym same) g, inr (rw same (omega (arith, full, length-take-le k out g.roomy))))
+  pub going_full : (asked used v limit : ℕ) (t : S) (q : List ℕ) (r : Result Told Refusal) (row row₁ out : List ℕ) → r ≡ Ok (Ask (length q)) → Going asked used t r row out
+      → AppendSays row used v q None row₁ → Going asked used t r row₁ out × Stopped r asked limit used (length row₁)
+  going_full asked used v limit t q r row row₁ out asks on (same, full) = (subst (λ (x : List ℕ). Going asked used t r x out) (sym same) on, rw asks (inr (rw same full)))
 
-  left_roomy : (r : Told) (room : ℕ) → Roomy r room → left_by r ≤ room
-  left_roomy (Ask k) room h = omega arith
-  left_roomy (Rest k) room h = h
-  left_roomy Sound room h = omega arith
-  left_roomy TooMany room h = omega arith
-  left_roomy (No k) room h = omega arith
-
-  pub going_ends : (o : S) (n asked used limit : ℕ) (t : S) (r : Told) (row out : List ℕ) (w : Recorded) → does o (parts n) s first begun → Going asked used t r row out → asked ≤ limit
-      → Stopped r asked limit used (length row) → w.end ≡ end_by r → w.left ≡ left_by r → w.used ≡ used → RecordSays does f o n limit w t row out
-  going_ends o n asked used limit t r row out w d g few stop a b c = record {
+  pub going_ends : (o : S) (n asked used limit : ℕ) (t : S) (r : Result Told Refusal) (row out : List ℕ) → does o (Parts n) s first begun → Going asked used t r row out → asked ≤ limit
+      → Stopped r asked limit used (length row) → Exchanged does f o n limit r used t row out
+  going_ends o n asked used limit t r row out d g few stop = record {
     exchanges = g.exchanges;
-    told = r;
-    dialogue = begun_so does f Here (does o (parts n)) (reverse g.exchanges) t r out (λ u q x (i, j, k). here u q x i j k) g.dialogue;
-    spells = ap (λ k. take k row) c ∙ g.spells;
-    used = omega (arith, c, g.used_low);
-    end = a;
-    left = b;
-    room = omega (arith, b, left_roomy r (length out) g.roomy);
+    dialogue = begun_so does f Here (does o (Parts n)) (reverse g.exchanges) t r out (λ u q x (i, j, k). here u q x i j k) g.dialogue;
+    spells = g.spells;
+    used_low = g.used_low;
+    roomy = g.roomy;
     few = omega (arith, g.counted);
-    stopped = subst (λ (k : ℕ). Stopped r k limit w.used (length row)) (sym g.counted) (subst (λ (k : ℕ). Stopped r asked limit k (length row)) (sym c) stop);
+    stopped = subst (λ (k : ℕ). Stopped r k limit used (length row)) (sym g.counted) stop;
   }
     where
-      here : (u : S) (q : Told) (x : List ℕ) → u ≡ s → q ≡ first → x ≡ begun → does o (parts n) u q x
+      here : (u : S) (q : Result Told Refusal) (x : List ℕ) → u ≡ s → q ≡ first → x ≡ begun → does o (Parts n) u q x
       here u q x i j k =
-          subst (λ (v : S). does o (parts n) v q x) (sym i) (subst (λ (v : Told). does o (parts n) s v x) (sym j) (subst (λ (v : List ℕ). does o (parts n) s first v) (sym k) d))
+          subst (λ (v : S). does o (Parts n) v q x) (sym i) (subst (λ (v : Result Told Refusal). does o (Parts n) s v x) (sym j) (subst (λ (v : List ℕ). does o (Parts n) s first v) (sym k) d))
 
 -- where it asks no more, nothing stopped it
-pub not_stopped : (r : Told) (asked limit used room : ℕ) → ((k : ℕ) → r ≡ Ask k → ⊥) → Stopped r asked limit used room
-not_stopped (Ask k) asked limit used room h = absurd (h k refl)
-not_stopped (Rest k) asked limit used room h = tt
-not_stopped Sound asked limit used room h = tt
-not_stopped TooMany asked limit used room h = tt
-not_stopped (No k) asked limit used room h = tt
+pub not_stopped : (r : Result Told Refusal) (asked limit used room : ℕ) → ((k : ℕ) → r ≡ Ok (Ask k) → ⊥) → Stopped r asked limit used room
+not_stopped (Ok (Ask k)) asked limit used room h = absurd (h k refl)
+not_stopped (Ok (Rest k)) asked limit used room h = tt
+not_stopped (Ok Sound) asked limit used room h = tt
+not_stopped (Ok TooMany) asked limit used room h = tt
+not_stopped (Err e) asked limit used room h = tt
 
 -- where the limit is reached
-pub limit_stops : (r : Told) (asked limit used room : ℕ) → asked ≡ limit → Stopped r asked limit used room
-limit_stops (Ask k) asked limit used room h = inl h
-limit_stops (Rest k) asked limit used room h = tt
-limit_stops Sound asked limit used room h = tt
-limit_stops TooMany asked limit used room h = tt
-limit_stops (No k) asked limit used room h = tt
+pub limit_stops : (r : Result Told Refusal) (asked limit used room : ℕ) → asked ≡ limit → Stopped r asked limit used room
+limit_stops (Ok (Ask k)) asked limit used room h = inl h
+limit_stops (Ok (Rest k)) asked limit used room h = tt
+limit_stops (Ok Sound) asked limit used room h = tt
+limit_stops (Ok TooMany) asked limit used room h = tt
+limit_stops (Err e) asked limit used room h = tt

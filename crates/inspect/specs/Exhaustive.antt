@@ -1,5 +1,5 @@
 -- Every subset of a few parts, by its number: part p counts 2^p. Assumes nothing: these are definitions.
-use Rattle.std.specs.Prelude.{◌≡◌, ℕ, ◌^◌, Bool, true, false, cond, ◌&&◌, List, [], ◌∷◌, Some, None, Decides, Option}
+use Rattle.std.specs.Prelude.{◌≡◌, ℕ, ◌^◌, ◌<◌, Bool, true, false, cond, ◌&&◌, List, [], ◌∷◌, Some, None, Decides, Option}
 use Rattle.std.specs.List.{list_all}
 use Rattle.subset.specs.Parts.{all_parts, within}
 use Rattle.subset.specs.Row.{members}
@@ -12,12 +12,14 @@ coded c = members (c ∷ [])
 abbrev pub implies : Bool → Bool → Bool
 implies a b = cond a b true
 
--- p holds of the subsets with the numbers below `end`; and of all subsets of n parts
-abbrev pub of_first : (end : ℕ) → (List ℕ → Bool) → Bool
-of_first end p = list_all (λ c. p (coded c)) (all_parts end)
-
+-- p holds of all subsets of n parts
 abbrev pub of_all : ℕ → (List ℕ → Bool) → Bool
-of_all n p = of_first (2 ^ n) p
+of_all n p = list_all (λ c. p (coded c)) (all_parts (2 ^ n))
+
+-- of each of the subsets of n parts some call gave true, or one gave false
+unfoldable pub Tried : (gave : ℕ → Bool → Type 0) → ℕ → Bool → Type 0
+Tried gave n true = (c : ℕ) → c < 2 ^ n → gave c true
+Tried gave n false = (c : ℕ) × (c < 2 ^ n) × gave c false
 
 -- js fails if it contains ks
 abbrev pub larger_fails : Judge → List ℕ → List ℕ → Bool

@@ -1,33 +1,43 @@
 // Trying every subset of a few parts, by its number: part p counts 2^p.
-ghost use Rattle.std.specs.Prelude.{◌≡◌, ◌^◌, ◌≤◌, length, take, nat_le};
+ghost use Rattle.std.specs.Prelude.{◌≡◌, ℕ, ◌^◌, ◌<◌, ◌≤◌, true, false, cond, Some, None, MatchOption, nat_le};
 ghost use Rattle.bisect.specs.Judge.{fails};
-ghost use Rattle.inspect.specs.Exhaustive.{MonotoneSays, coded, grown, grows, larger_fails, of_first, spared, spares};
+ghost use Rattle.inspect.specs.Exhaustive.{MonotoneSays, coded, grown, grows, larger_fails, spared, spares, Tried};
 
 use bisect::fails;
 use judges::{Judge, all_in};
 use subset::{is_within, tell};
 
-// The most parts of which every subset is tried.
-pub(crate) const FEW: u64 = 9;
-
-// How many subsets there are.
-fn subsets_of(parts: u64) -> u64
-    requires { parts ≤ 9 }
-    ensures { result ≡ 2 ^ parts }
-{
-    1 << parts
+// So few parts that every subset of them is tried.
+#[derive(Clone, Copy)]
+struct Few {
+    parts: u64,
+    ghost few: { parts ≤ 9 },
 }
 
-// Writes the subset with a number to the beginning of a row, and says how many parts it has.
-fn tell_coded(code: u64, row: &mut [u64]) -> usize
-    requires { 64 ≤ length row.old }
-    ensures room { result ≤ length row.new }
-    ensures parts { take result row.new ≡ coded code }
+impl Few {
+    fn new(parts: u64) -> Option<Few>
+        ensures { MatchOption result (nat_le parts 9 ≡ false) (λ few. (nat_le parts 9 ≡ true) × (few.parts ≡ parts)) }
+    {
+        if parts > 9 {
+            return None;
+        }
+        Some(Few { parts })
+    }
+
+    // The numbers of the subsets are those below it.
+    fn subsets(self) -> u64
+        ensures { result ≡ 2 ^ self.parts }
+    {
+        1 << self.parts
+    }
+}
+
+// The subset with a number, in a lent row.
+fn coded(code: u64, row: &mut [u64; 64]) -> &[u64]
+    ensures { result.now ≡ coded code }
 {
-    let Some(count) = tell(&[code], row) else {
-        return 0;
-    };
-    count as usize
+    let count = tell(&[code], row).unwrap_or(0);
+    &row[..count as usize]
 }
 
 // Whether the subset with a number fails.
@@ -35,9 +45,7 @@ fn code_fails<J: Judge>(judge: &mut J, code: u64) -> bool
     ensures same { J.meaning judge.new ≡ J.meaning judge.old }
     ensures value { result ≡ fails (J.meaning judge.old) (coded code) }
 {
-    let mut row = [0; 64];
-    let count = tell_coded(code, &mut row);
-    fails(judge.says(&row[..count]))
+    fails(judge.says(coded(code, &mut [0; 64])))
 }
 
 // Whether the subset with a number fails, if it contains another.
@@ -51,13 +59,15 @@ fn fails_above<J: Judge>(judge: &mut J, code: u64, larger: u64) -> bool
     true
 }
 
-// Whether what contains a subset fails, of the subsets below a number.
-fn all_above<J: Judge>(judge: &mut J, code: u64, end: u64) -> bool
+// Whether something holds of all subsets of a few parts.
+fn of_all<J: Judge, F: Fn(&mut J, u64) -> bool>(judge: &mut J, few: Few, holds: F) -> bool
+    requires can { F.IsAlwaysCallable holds }
+    requires keeps { (j : _) (k : _) (c : ℕ) (b : _) → c < 2 ^ 64 → F.post holds j c b k → J.meaning k.now ≡ J.meaning j.now }
     ensures same { J.meaning judge.new ≡ J.meaning judge.old }
-    ensures value { result ≡ of_first end (larger_fails (J.meaning judge.old) (coded code)) }
+    ensures tried { Tried (λ c b. (j : _) × (k : _) × (J.meaning j.now ≡ J.meaning judge.old) × F.post holds j c b k) few.parts result }
 {
-    for larger in 0..end {
-        if !fails_above(judge, code, larger) {
+    for code in 0..few.subsets() {
+        if !holds(judge, code) {
             return false;
         }
     }
@@ -65,29 +75,22 @@ fn all_above<J: Judge>(judge: &mut J, code: u64, end: u64) -> bool
 }
 
 // Whether a subset doesn't fail, or all that contains it does.
-fn grown<J: Judge>(judge: &mut J, code: u64, parts: u64) -> bool
-    requires { parts ≤ 9 }
+fn grown<J: Judge>(judge: &mut J, code: u64, few: Few) -> bool
     ensures same { J.meaning judge.new ≡ J.meaning judge.old }
-    ensures value { result ≡ grown parts (J.meaning judge.old) (coded code) }
+    ensures value { result ≡ grown few.parts (J.meaning judge.old) (coded code) }
 {
     if code_fails(judge, code) {
-        return all_above(judge, code, subsets_of(parts));
+        return of_all(judge, few, |judge, larger| fails_above(judge, code, larger));
     }
     true
 }
 
 // Whether failing is monotone.
-pub(crate) fn grows<J: Judge>(judge: &mut J, parts: u64) -> bool
-    requires { parts ≤ 9 }
+fn grows<J: Judge>(judge: &mut J, few: Few) -> bool
     ensures same { J.meaning judge.new ≡ J.meaning judge.old }
-    ensures value { result ≡ grows parts (J.meaning judge.old) }
+    ensures value { result ≡ grows few.parts (J.meaning judge.old) }
 {
-    for code in 0..subsets_of(parts) {
-        if !grown(judge, code, parts) {
-            return false;
-        }
-    }
-    true
+    of_all(judge, few, |judge, code| grown(judge, code, few))
 }
 
 // Whether the subset with a number is no failing one that lies strictly within another.
@@ -96,8 +99,7 @@ fn spares<J: Judge>(judge: &mut J, subset: &[u64], code: u64) -> bool
     ensures value { result ≡ spares (J.meaning judge.old) subset.now (coded code) }
 {
     let mut row = [0; 64];
-    let count = tell_coded(code, &mut row);
-    let smaller = &row[..count];
+    let smaller = coded(code, &mut row);
     if all_in(smaller, subset) && fails(judge.says(smaller)) {
         return all_in(subset, smaller);
     }
@@ -105,26 +107,28 @@ fn spares<J: Judge>(judge: &mut J, subset: &[u64], code: u64) -> bool
 }
 
 // Whether nothing smaller within a subset fails.
-pub(crate) fn spared<J: Judge>(judge: &mut J, subset: &[u64], parts: u64) -> bool
-    requires { parts ≤ 9 }
+fn spared<J: Judge>(judge: &mut J, subset: &[u64], few: Few) -> bool
     ensures same { J.meaning judge.new ≡ J.meaning judge.old }
-    ensures value { result ≡ spared parts (J.meaning judge.old) subset.now }
+    ensures value { result ≡ spared few.parts (J.meaning judge.old) subset.now }
 {
-    for code in 0..subsets_of(parts) {
-        if !spares(judge, subset, code) {
-            return false;
-        }
-    }
-    true
+    of_all(judge, few, |judge, code| spares(judge, subset, code))
+}
+
+// Whether nothing smaller within a subset fails, found by trying; none is said of more than nine parts.
+pub(crate) fn spares_all<J: Judge>(judge: &mut J, parts: u64, subset: &[u64]) -> Option<bool>
+    ensures same { J.meaning judge.new ≡ J.meaning judge.old }
+    ensures said { result ≡ cond (nat_le parts 9) (Some (spared parts (J.meaning judge.old) subset.now)) None }
+{
+    let few = Few::new(parts)?;
+    Some(spared(judge, subset, few))
 }
 
 // Whether failing is monotone, found by trying; none is said of more than nine parts.
 pub fn is_monotone<J: Judge>(judge: &mut J, parts: u64) -> Option<bool>
     ensures same { J.meaning judge.new ≡ J.meaning judge.old }
+    ensures found { result ≡ cond (nat_le parts 9) (Some (grows parts (J.meaning judge.old))) None }
     ensures said { MonotoneSays (nat_le parts 9) parts (J.meaning judge.old) result }
 {
-    if parts > FEW {
-        return None;
-    }
-    Some(grows(judge, parts))
+    let few = Few::new(parts)?;
+    Some(grows(judge, few))
 }

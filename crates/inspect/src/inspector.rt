@@ -1,25 +1,24 @@
 // What a transcript of a run shows: whether the promises were kept, and if not, which one was broken.
-ghost use Rattle.std.specs.Prelude.{◌≡◌, ◌≤◌, true, length, take};
+ghost use Rattle.std.specs.Prelude.{◌≡◌, ◌≤◌, true, false, Some, MatchOption, length};
 ghost use Rattle.std.specs.List.{list_all};
 ghost use Rattle.bisect.specs.Judge.{fails};
-ghost use Rattle.subset.specs.Parts.{all_parts, rising, without};
-ghost use Rattle.inspect.specs.Inspector.{Exact, all_needed, answer_of, finding, known, of_count, of_end, of_left, of_many, of_monotone, of_sound, question_of, rightly, there};
+ghost use Rattle.subset.specs.Parts.{all_parts, some_of};
+ghost use Rattle.inspect.specs.Inspector.{Exact, answer_of, ending, finding, known, of_count, of_end, of_left, of_many, of_monotone, of_sound, question_of, rightly, there, words};
 ghost use Rattle.judges.specs.Spelled.{lists_of};
 
-use super::exhaustive::{FEW, grows, spared};
-use super::parts::is_subset;
-use bisect::{Reply, fails, leave_out};
-use judges::{Judge, first_list};
+use super::exhaustive::{is_monotone, spares_all};
+use super::parts::{Row, Subset, is_subset};
+use bisect::{MOST, fails};
+use judges::{Judge, first_list, lists};
+use std::error::Error;
+use std::fmt;
 use subset::{fill, tell};
 
-// The most parts that aren't refused.
-const MOST: u64 = 4096;
-
 // How a run ended.
-#[derive(Clone, Copy)]
-pub enum End {
+#[derive(Clone, Copy, Debug, PartialEq, Eq)]
+pub enum End<'a> {
     // It told what is left.
-    Left,
+    Left(&'a [u64]),
     Sound,
     Refused,
     // It was stopped while it still asked.
@@ -27,20 +26,16 @@ pub enum End {
 }
 
 // What was asked and answered in a run, and how it ended.
-#[derive(Clone, Copy)]
+#[derive(Clone, Copy, Debug, PartialEq, Eq)]
 pub struct Transcript<'a> {
     // Lists in a row, the first question first, each the answer and then the question.
     pub exchanges: &'a [u64],
-    pub end: End,
-    // What is left, if it told that.
-    pub left: &'a [u64],
+    pub end: End<'a>,
 }
 
 // The promise that was broken.
-#[derive(Clone, Copy)]
+#[derive(Clone, Copy, Debug, PartialEq, Eq)]
 pub enum Finding {
-    // None was.
-    Nothing,
     // An answer isn't what the judge says.
     Misheard,
     // It asked of what isn't there.
@@ -73,6 +68,32 @@ pub enum Finding {
     SmallerFails,
 }
 
+impl fmt::Display for Finding {
+    ghost output = { λ x. Some (words x) };
+
+    fn fmt<W: fmt::Write>(&self, f: &mut fmt::Formatter<W>) -> fmt::Result {
+        f.write_str(match self {
+            Finding::Misheard => "an answer isn't the judge's",
+            Finding::Strayed => "it asked of what isn't there",
+            Finding::NotRefused => "it didn't refuse too many parts",
+            Finding::Refused => "it refused, though there aren't too many parts",
+            Finding::Unended => "it never ended",
+            Finding::Unasked => "it said sound, and did not ask of all",
+            Finding::AskedMore => "it said sound after asking more",
+            Finding::NotSound => "it said sound, and all together fail",
+            Finding::NoSubset => "what is left is no subset of the parts",
+            Finding::Passes => "what is left doesn't fail",
+            Finding::Loose => "something can be left out",
+            Finding::WasSound => "all together don't fail, and it didn't say sound",
+            Finding::TooMany => "too many questions",
+            Finding::ManyIfMonotone => "too many questions where failing is monotone",
+            Finding::SmallerFails => "something smaller fails",
+        })
+    }
+}
+
+impl Error for Finding {}
+
 // The answer and the question of an exchange.
 fn parted(exchange: &[u64]) -> (u64, &[u64])
     ensures answer { result.0 ≡ answer_of exchange.now }
@@ -80,7 +101,7 @@ fn parted(exchange: &[u64]) -> (u64, &[u64])
 {
     match exchange.split_first() {
         Some((answer, question)) => (*answer, question),
-        None => (0, exchange),
+        None => (0, &[]),
     }
 }
 
@@ -89,13 +110,12 @@ fn heard_rightly<J: Judge>(judge: &mut J, exchanges: &[u64]) -> bool
     ensures same { J.meaning judge.new ≡ J.meaning judge.old }
     ensures value { result ≡ list_all (rightly (J.meaning judge.old)) (lists_of exchanges.now) }
 {
-    let mut rest = exchanges;
-    while let Some((exchange, others)) = first_list(rest) {
+    // No `all`: of a judge that a chain's closure asked, a proof knows nothing afterwards.
+    for exchange in lists(exchanges) {
         let (answer, question) = parted(exchange);
         if judge.says(question) != answer {
             return false;
         }
-        rest = others;
     }
     true
 }
@@ -104,225 +124,176 @@ fn heard_rightly<J: Judge>(judge: &mut J, exchanges: &[u64]) -> bool
 fn all_there(exchanges: &[u64], parts: u64) -> bool
     ensures { result ≡ list_all (there parts) (lists_of exchanges.now) }
 {
-    let mut rest = exchanges;
-    while let Some((exchange, others)) = first_list(rest) {
-        let (_, question) = parted(exchange);
-        if !is_subset(question, parts) {
-            return false;
-        }
-        rest = others;
-    }
-    true
+    lists(exchanges).all(|exchange| is_subset(parted(exchange).1, parts))
 }
 
-// How many exchanges there are.
-fn count(exchanges: &[u64]) -> u64
-    ensures { result ≡ length (lists_of exchanges.now) }
-{
-    let mut count = 0;
-    let mut rest = exchanges;
-    while let Some((_, others)) = first_list(rest) {
-        count += 1;
-        rest = others;
-    }
-    count
-}
-
-// Writes all parts to the beginning of a row, and says how many they are.
-fn tell_all(parts: u64, row: &mut [u64]) -> usize
-    requires few { parts ≤ 4096 }
-    requires room { 4096 ≤ length row.old }
-    ensures room { result ≤ length row.new }
-    ensures parts { take result row.new ≡ all_parts parts }
-{
-    let mut words = [0; 64];
-    fill(&mut words, parts);
-    let Some(count) = tell(&words, row) else {
-        return 0;
-    };
-    count as usize
-}
-
-// Whether all parts together fail.
-fn all_fail<J: Judge>(judge: &mut J, parts: u64) -> bool
-    requires { parts ≤ 4096 }
-    ensures same { J.meaning judge.new ≡ J.meaning judge.old }
-    ensures value { result ≡ fails (J.meaning judge.old) (all_parts parts) }
-{
-    let mut row = [0; 4096];
-    let count = tell_all(parts, &mut row);
-    fails(judge.says(&row[..count]))
-}
-
-// Writes a subset without one of its parts to the beginning of a row, and says how many they are.
-fn tell_but(subset: &[u64], part: u64, row: &mut [u64]) -> usize
-    requires rises { rising subset.now ≡ true }
-    requires room { length subset.now ≤ length row.old }
-    ensures room { result ≤ length row.new }
-    ensures parts { take result row.new ≡ without part subset.now }
-{
-    match leave_out(subset, row, part) {
-        Reply::Left(count) => count as usize,
-        Reply::Refused(_) => 0,
-    }
-}
-
-// Whether a subset fails without one of its parts.
-fn can_go<J: Judge>(judge: &mut J, subset: &[u64], part: u64) -> bool
-    requires rises { rising subset.now ≡ true }
-    requires short { length subset.now ≤ 4096 }
-    ensures same { J.meaning judge.new ≡ J.meaning judge.old }
-    ensures value { result ≡ fails (J.meaning judge.old) (without part subset.now) }
-{
-    let mut row = [0; 4096];
-    let count = tell_but(subset, part, &mut row);
-    fails(judge.says(&row[..count]))
-}
-
-// Whether a subset doesn't fail without any one of its parts.
-fn all_needed<J: Judge>(judge: &mut J, subset: &[u64]) -> bool
-    requires rises { rising subset.now ≡ true }
-    requires short { length subset.now ≤ 4096 }
-    ensures same { J.meaning judge.new ≡ J.meaning judge.old }
-    ensures value { result ≡ all_needed (J.meaning judge.old) subset.now }
-{
-    for p in subset {
-        if can_go(judge, subset, *p) {
-            return false;
-        }
-    }
-    true
-}
-
-fn of_many(exchanges: &[u64], end: End) -> Finding
-    ensures { result ≡ of_many (lists_of exchanges.now) end }
+fn of_many(exchanges: &[u64], end: End) -> Result<(), Finding>
+    ensures { result ≡ of_many (lists_of exchanges.now) (ending end.entry) }
 {
     if first_list(exchanges).is_some() {
-        return Finding::NotRefused;
+        return Err(Finding::NotRefused);
     }
     match end {
-        End::Refused => Finding::Nothing,
-        End::Left | End::Sound | End::Unended => Finding::NotRefused,
+        End::Refused => Ok(()),
+        End::Left(_) | End::Sound | End::Unended => Err(Finding::NotRefused),
     }
 }
 
-fn of_sound(exchanges: &[u64], parts: u64) -> Finding
+fn of_sound(exchanges: &[u64], parts: u64) -> Result<(), Finding>
     ensures { result ≡ of_sound parts (lists_of exchanges.now) }
 {
-    let Some((exchange, others)) = first_list(exchanges) else {
-        return Finding::Unasked;
-    };
+    let (exchange, others) = first_list(exchanges).ok_or(Finding::Unasked)?;
     let (answer, question) = parted(exchange);
     if question.len() as u64 != parts {
-        return Finding::Unasked;
+        return Err(Finding::Unasked);
     }
-    if count(others) != 0 {
-        return Finding::AskedMore;
+    if lists(others).count() != 0 {
+        return Err(Finding::AskedMore);
     }
     if answer == 1 {
-        return Finding::NotSound;
+        return Err(Finding::NotSound);
     }
-    Finding::Nothing
+    Ok(())
 }
 
-// Whether failing is known to be monotone: one was told so, or it can be tried.
-fn is_known<J: Judge>(judge: &mut J, parts: u64, told: bool) -> bool
-    ensures same { J.meaning judge.new ≡ J.meaning judge.old }
-    ensures value { result ≡ known told parts (J.meaning judge.old) }
-{
-    told || parts <= FEW && grows(judge, parts)
+// So many parts that a reducer must not refuse, and whether one was told that failing is monotone.
+// The judge is no field: what holds it by `&mut` would promise in each method that it still holds the same.
+#[derive(Clone, Copy)]
+struct Case {
+    parts: u64,
+    told: bool,
+    ghost fit: { parts ≤ 4096 },
 }
 
-fn of_monotone<J: Judge>(judge: &mut J, parts: u64, asked: u64, left: &[u64]) -> Finding
-    requires { length left.now ≤ 4096 }
-    ensures same { J.meaning judge.new ≡ J.meaning judge.old }
-    ensures value { result ≡ of_monotone parts (J.meaning judge.old) asked left.now }
-{
-    if asked > 14 * (left.len() as u64 + 1) {
-        return Finding::ManyIfMonotone;
+impl Case {
+    // Whether failing is known to be monotone: one was told so, or it can be tried.
+    fn is_known<J: Judge>(self, judge: &mut J) -> bool
+        ensures same { J.meaning judge.new ≡ J.meaning judge.old }
+        ensures value { result ≡ known self.told self.parts (J.meaning judge.old) }
+    {
+        self.told || is_monotone(judge, self.parts) == Some(true)
     }
-    if parts <= FEW && !spared(judge, left, parts) {
-        return Finding::SmallerFails;
-    }
-    Finding::Nothing
-}
 
-fn of_count<J: Judge>(judge: &mut J, parts: u64, told: bool, asked: u64, left: &[u64]) -> Finding
-    requires few { parts ≤ 4096 }
-    requires short { length left.now ≤ 4096 }
-    ensures same { J.meaning judge.new ≡ J.meaning judge.old }
-    ensures value { result ≡ of_count told parts (J.meaning judge.old) asked left.now }
-{
-    if asked > 15 * (parts + 1) * (parts + 1) {
-        return Finding::TooMany;
+    // All parts, in a lent row.
+    fn all(self, row: &mut Row) -> &[u64]
+        ensures { result.now ≡ all_parts self.parts }
+    {
+        let mut words = [0; 64];
+        // 64 words have room for them, so nothing is refused.
+        let _ = fill(&mut words, self.parts);
+        let count = tell(&words, row).unwrap_or(0);
+        &row[..count as usize]
     }
-    if is_known(judge, parts, told) {
-        return of_monotone(judge, parts, asked, left);
-    }
-    Finding::Nothing
-}
 
-fn of_left<J: Judge>(judge: &mut J, parts: u64, told: bool, asked: u64, left: &[u64]) -> Finding
-    requires { parts ≤ 4096 }
-    ensures same { J.meaning judge.new ≡ J.meaning judge.old }
-    ensures value { result ≡ of_left told parts (J.meaning judge.old) asked left.now }
-{
-    if !is_subset(left, parts) {
-        return Finding::NoSubset;
+    // Whether all parts together fail.
+    fn all_fail<J: Judge>(self, judge: &mut J) -> bool
+        ensures same { J.meaning judge.new ≡ J.meaning judge.old }
+        ensures value { result ≡ fails (J.meaning judge.old) (all_parts self.parts) }
+    {
+        fails(judge.says(self.all(&mut [0; MOST as usize])))
     }
-    if !fails(judge.says(left)) {
-        return Finding::Passes;
-    }
-    if !all_needed(judge, left) {
-        return Finding::Loose;
-    }
-    if !all_fail(judge, parts) {
-        return Finding::WasSound;
-    }
-    of_count(judge, parts, told, asked, left)
-}
 
-fn of_end<J: Judge>(judge: &mut J, parts: u64, told: bool, transcript: Transcript) -> Finding
-    requires { parts ≤ 4096 }
-    ensures same { J.meaning judge.new ≡ J.meaning judge.old }
-    ensures value { result ≡ of_end told parts (J.meaning judge.old) (lists_of transcript.entry.exchanges.now) transcript.entry.end transcript.entry.left.now }
-{
-    match transcript.end {
-        End::Left => of_left(
-            judge,
-            parts,
-            told,
-            count(transcript.exchanges),
-            transcript.left,
-        ),
-        End::Sound => of_sound(transcript.exchanges, parts),
-        End::Refused => Finding::Refused,
-        End::Unended => Finding::Unended,
+    // What is left as a subset of the parts, if it is one.
+    fn subset(self, left: &[u64]) -> Option<Subset<'_>>
+        ensures { MatchOption result (some_of self.parts left.now ≡ false) (λ s. (some_of self.parts left.now ≡ true) × (s.parts.now ≡ left.now)) }
+    {
+        if !is_subset(left, self.parts) {
+            return None;
+        }
+        Some(Subset { parts: left })
+    }
+
+    fn of_monotone<J: Judge>(self, judge: &mut J, asked: u64, left: Subset) -> Result<(), Finding>
+        ensures same { J.meaning judge.new ≡ J.meaning judge.old }
+        ensures value { result ≡ of_monotone self.parts (J.meaning judge.old) asked left.entry.parts.now }
+    {
+        if asked > 14 * (left.parts.len() as u64 + 1) {
+            return Err(Finding::ManyIfMonotone);
+        }
+        if spares_all(judge, self.parts, left.parts) == Some(false) {
+            return Err(Finding::SmallerFails);
+        }
+        Ok(())
+    }
+
+    fn of_count<J: Judge>(self, judge: &mut J, asked: u64, left: Subset) -> Result<(), Finding>
+        ensures same { J.meaning judge.new ≡ J.meaning judge.old }
+        ensures value { result ≡ of_count self.told self.parts (J.meaning judge.old) asked left.entry.parts.now }
+    {
+        if asked > 15 * (self.parts + 1) * (self.parts + 1) {
+            return Err(Finding::TooMany);
+        }
+        if self.is_known(judge) {
+            return self.of_monotone(judge, asked, left);
+        }
+        Ok(())
+    }
+
+    fn of_left<J: Judge>(self, judge: &mut J, asked: u64, left: &[u64]) -> Result<(), Finding>
+        ensures same { J.meaning judge.new ≡ J.meaning judge.old }
+        ensures value { result ≡ of_left self.told self.parts (J.meaning judge.old) asked left.now }
+    {
+        let subset = self.subset(left).ok_or(Finding::NoSubset)?;
+        if !fails(judge.says(left)) {
+            return Err(Finding::Passes);
+        }
+        if !subset.is_needed(judge) {
+            return Err(Finding::Loose);
+        }
+        if !self.all_fail(judge) {
+            return Err(Finding::WasSound);
+        }
+        self.of_count(judge, asked, subset)
+    }
+
+    fn of_end<J: Judge>(self, judge: &mut J, transcript: Transcript) -> Result<(), Finding>
+        ensures same { J.meaning judge.new ≡ J.meaning judge.old }
+        ensures value { result ≡ of_end self.told self.parts (J.meaning judge.old) (lists_of transcript.entry.exchanges.now) (ending transcript.entry.end) }
+    {
+        match transcript.end {
+            End::Left(left) => {
+                let asked = lists(transcript.exchanges).count() as u64;
+                self.of_left(judge, asked, left)
+            }
+            End::Sound => of_sound(transcript.exchanges, self.parts),
+            End::Refused => Err(Finding::Refused),
+            End::Unended => Err(Finding::Unended),
+        }
     }
 }
 
 // The first promise that is broken.
-fn first_broken<J: Judge>(judge: &mut J, parts: u64, told: bool, transcript: Transcript) -> Finding
+fn first_broken<J: Judge>(
+    judge: &mut J,
+    parts: u64,
+    told: bool,
+    transcript: Transcript,
+) -> Result<(), Finding>
     ensures same { J.meaning judge.new ≡ J.meaning judge.old }
-    ensures value { result ≡ finding told parts (J.meaning judge.old) (lists_of transcript.entry.exchanges.now) transcript.entry.end transcript.entry.left.now }
+    ensures value { result ≡ finding told parts (J.meaning judge.old) (lists_of transcript.entry.exchanges.now) (ending transcript.entry.end) }
 {
     if !heard_rightly(judge, transcript.exchanges) {
-        return Finding::Misheard;
+        return Err(Finding::Misheard);
     }
     if !all_there(transcript.exchanges, parts) {
-        return Finding::Strayed;
+        return Err(Finding::Strayed);
     }
     if parts > MOST {
         return of_many(transcript.exchanges, transcript.end);
     }
-    of_end(judge, parts, told, transcript)
+    Case { parts, told }.of_end(judge, transcript)
 }
 
 // Finds the first promise that a run against a judge broke. `told` says that failing is monotone; up to nine parts that is tried, too.
-pub fn inspect<J: Judge>(judge: &mut J, parts: u64, told: bool, transcript: Transcript) -> Finding
+pub fn inspect<J: Judge>(
+    judge: &mut J,
+    parts: u64,
+    told: bool,
+    transcript: Transcript,
+) -> Result<(), Finding>
     ensures same { J.meaning judge.new ≡ J.meaning judge.old }
-    ensures first { result ≡ finding told parts (J.meaning judge.old) (lists_of transcript.entry.exchanges.now) transcript.entry.end transcript.entry.left.now }
-    ensures exact { Exact told parts (J.meaning judge.old) (lists_of transcript.entry.exchanges.now) transcript.entry.end transcript.entry.left.now result }
+    ensures first { result ≡ finding told parts (J.meaning judge.old) (lists_of transcript.entry.exchanges.now) (ending transcript.entry.end) }
+    ensures exact { Exact told parts (J.meaning judge.old) (lists_of transcript.entry.exchanges.now) (ending transcript.entry.end) result }
 {
     first_broken(judge, parts, told, transcript)
 }

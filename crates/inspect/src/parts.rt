@@ -1,25 +1,58 @@
-// Whether a row of numbers is a subset.
-ghost use Rattle.std.specs.Prelude.{◌≡◌, nat_lt};
-ghost use Rattle.std.specs.List.{list_all};
-ghost use Rattle.subset.specs.Parts.{some_of};
+// Subsets in rows of numbers.
+ghost use Rattle.std.specs.Prelude.{◌≡◌, ◌≤◌, true, length};
+ghost use Rattle.bisect.specs.Judge.{fails};
+ghost use Rattle.subset.specs.Parts.{rising, some_of, without};
+ghost use Rattle.inspect.specs.Inspector.{all_needed};
 
-use bisect::rises;
+use bisect::{MOST, fails, leave_out, rises};
+use judges::Judge;
 
-// Whether all are below a number.
-fn all_below(parts: &[u64], end: u64) -> bool
-    ensures { result ≡ list_all (λ k. nat_lt k end) parts.now }
-{
-    for p in parts {
-        if *p >= end {
-            return false;
-        }
-    }
-    true
-}
+// A row that has room for every subset.
+pub(crate) type Row = [u64; MOST as usize];
 
 // Whether they are a subset of so many parts.
 pub(crate) fn is_subset(subset: &[u64], parts: u64) -> bool
     ensures { result ≡ some_of parts subset.now }
 {
-    rises(subset) && all_below(subset, parts)
+    rises(subset) && subset.iter().all(|p| *p < parts)
+}
+
+// At most 4,096 parts that rise.
+#[derive(Clone, Copy)]
+pub(crate) struct Subset<'a> {
+    pub(crate) parts: &'a [u64],
+    ghost rises: { rising parts.now ≡ true },
+    ghost short: { length parts.now ≤ 4096 },
+}
+
+impl<'a> Subset<'a> {
+    // The subset without one of its parts, in a lent row.
+    fn but<'b>(self, part: u64, row: &'b mut Row) -> &'b [u64]
+        ensures { result.now ≡ without part self.entry.parts.now }
+    {
+        let count = leave_out(self.parts, row, part).unwrap_or(0);
+        &row[..count as usize]
+    }
+
+    // Whether it fails without one of its parts.
+    fn can_spare<J: Judge>(self, judge: &mut J, part: u64) -> bool
+        ensures same { J.meaning judge.new ≡ J.meaning judge.old }
+        ensures value { result ≡ fails (J.meaning judge.old) (without part self.entry.parts.now) }
+    {
+        fails(judge.says(self.but(part, &mut [0; MOST as usize])))
+    }
+
+    // Whether it doesn't fail without any one of its parts.
+    pub(crate) fn is_needed<J: Judge>(self, judge: &mut J) -> bool
+        ensures same { J.meaning judge.new ≡ J.meaning judge.old }
+        ensures value { result ≡ all_needed (J.meaning judge.old) self.entry.parts.now }
+    {
+        // No `all`: of a judge that a chain's closure asked, a proof knows nothing afterwards.
+        for p in self.parts {
+            if self.can_spare(judge, *p) {
+                return false;
+            }
+        }
+        true
+    }
 }

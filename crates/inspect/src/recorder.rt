@@ -1,58 +1,42 @@
 // A run of any reducer against any judge, recorded.
-ghost use Rattle.std.specs.Prelude.{◌≡◌, ℕ, ◌≤◌, List, length, replicate};
-ghost use Rattle.bisect.specs.Engine.{Event, parts, said};
+ghost use Rattle.std.specs.Prelude.{◌≡◌, ℕ, ◌≤◌, List, Result, length, replicate};
+ghost use Rattle.reduce.specs.declared.Event.{Event};
+ghost use Rattle.reduce.specs.declared.Refusal.{Refusal};
 ghost use Rattle.reduce.specs.declared.Told.{Told};
-ghost use Rattle.inspect.specs.Recorder.{AppendSays, Does, RecordSays, ReducerKept, Roomy, end_by, left_by};
+ghost use Rattle.inspect.specs.Inspector.{ending};
+ghost use Rattle.inspect.specs.Recorder.{AppendSays, Asked, Does, Exchanged, RecordSays, ReducerKept, Roomy, end_by};
 
-use super::inspector::End;
+use super::inspector::{End, Transcript};
 use judges::Judge;
-use reduce::{Told, step};
+use reduce::{Event, Refusal, Told, react};
 
 // A reducer to try. What it asks of, or leaves, stands at the beginning of the lent row.
 pub trait Reducer {
     // What it may do at an event: from where, where to, what it tells, and what then stands in the row.
-    ghost does: { Self → Event → Self → Told → List ℕ → Type 0 };
+    ghost does: { Self → Event → Self → Result Told Refusal → List ℕ → Type 0 };
 
-    // Told how many parts there are.
-    fn begin(&mut self, count: u64, out: &mut [u64]) -> Told
+    fn react(&mut self, event: Event, out: &mut [u64]) -> Result<Told, Refusal>
         ensures room { Roomy result (length out.new) }
-        ensures does { does self.old (parts count) self.new result out.new };
-
-    // Told what the judge said.
-    fn hear(&mut self, answer: u64, out: &mut [u64]) -> Told
-        ensures room { Roomy result (length out.new) }
-        ensures does { does self.old (said answer) self.new result out.new };
+        ensures does { does self.old event self.new result out.new };
 }
 
-// What was recorded.
-#[derive(Clone, Copy)]
-pub struct Recorded {
-    pub end: End,
-    // So much of the row has the exchanges.
-    pub used: usize,
-    // So many are left.
-    pub left: u64,
-}
-
-impl Recorded {
-    // By what was told last, with so much of the row used.
-    fn by(told: Told, used: usize) -> Recorded
-        ensures end { result.end ≡ end_by told }
-        ensures left { result.left ≡ left_by told }
-        ensures used { result.used ≡ used }
+impl<'a> End<'a> {
+    // By what was told last, and the row in which stands what is left.
+    fn by(told: Result<Told, Refusal>, out: &'a [u64]) -> End<'a>
+        requires { Roomy told (length out.now) }
+        ensures { ending result ≡ end_by told out.now }
     {
-        let (end, left) = match told {
-            Told::Ask(_) => (End::Unended, 0),
-            Told::Rest(count) => (End::Left, count),
-            Told::Sound => (End::Sound, 0),
-            Told::TooMany | Told::No(_) => (End::Refused, 0),
-        };
-        Recorded { end, used, left }
+        match told {
+            Ok(Told::Ask(_)) => End::Unended,
+            Ok(Told::Rest(count)) => End::Left(&out[..count as usize]),
+            Ok(Told::Sound) => End::Sound,
+            Ok(Told::TooMany) | Err(_) => End::Refused,
+        }
     }
 }
 
 // The reducer itself, with a memory of its own.
-#[derive(Clone, Copy)]
+#[derive(Clone, Copy, Debug, PartialEq, Eq)]
 pub struct Machine {
     memory: [u64; 72],
 }
@@ -68,16 +52,24 @@ impl Machine {
 impl Reducer for Machine {
     ghost does = { Does };
 
-    fn begin(&mut self, count: u64, out: &mut [u64]) -> Told {
-        step(&mut self.memory, 0, count, out)
+    fn react(&mut self, event: Event, out: &mut [u64]) -> Result<Told, Refusal> {
+        react(&mut self.memory, event, out)
     }
+}
 
-    fn hear(&mut self, answer: u64, out: &mut [u64]) -> Told {
-        step(&mut self.memory, 1, answer, out)
+// The question in the row, where it was told to ask one.
+fn asked(told: Result<Told, Refusal>, out: &[u64]) -> Option<&[u64]>
+    requires { Roomy told (length out.now) }
+    ensures { Asked told out.now result }
+{
+    match told {
+        Ok(Told::Ask(count)) => Some(&out[..count as usize]),
+        Ok(Told::Rest(_) | Told::Sound | Told::TooMany) | Err(_) => None,
     }
 }
 
 // Appends an exchange to a row of which so much is used, and says how much is used then; none if it has no room.
+// Row and use are no struct: a fact about a field can't stand beside a `&mut` in it, so each method would require it again.
 fn append(row: &mut [u64], used: usize, answer: u64, question: &[u64]) -> Option<usize>
     requires { used ≤ length row.old }
     ensures { AppendSays row.old used answer question.now result row.new }
@@ -94,33 +86,52 @@ fn append(row: &mut [u64], used: usize, answer: u64, question: &[u64]) -> Option
     Some(end)
 }
 
-// Runs a reducer against a judge, and records it in the row: up to its end, or so many questions, or as far as there is room.
-pub fn record<R: Reducer, J: Judge>(
+// Runs a reducer against a judge, with the exchanges in the row: up to its end, or so many questions, or as far as there is room.
+// Says what it told last, and how much of the row is used.
+fn exchange<R: Reducer, J: Judge>(
     reducer: &mut R,
     judge: &mut J,
     count: u64,
     limit: u64,
     row: &mut [u64],
     out: &mut [u64],
-) -> Recorded
+) -> (Result<Told, Refusal>, usize)
     ensures same { J.meaning judge.new ≡ J.meaning judge.old }
-    ensures recorded { RecordSays R.does (J.meaning judge.old) reducer.old count limit result reducer.new row.new out.new }
+    ensures exchanged { Exchanged R.does (J.meaning judge.old) reducer.old count limit result.0 result.1 reducer.new row.new out.new }
 {
-    let mut told = reducer.begin(count, out);
+    let mut told = reducer.react(Event::Parts(count), out);
     let mut used = 0;
     for _asked in 0..limit {
-        let Told::Ask(length) = told else {
-            return Recorded::by(told, used);
+        let Some(question) = asked(told, out) else {
+            return (told, used);
         };
-        let question = &out[..length as usize];
         let answer = judge.says(question);
         let Some(end) = append(row, used, answer, question) else {
-            return Recorded::by(told, used);
+            return (told, used);
         };
         used = end;
-        told = reducer.hear(answer, out);
+        told = reducer.react(Event::Said(answer), out);
     }
-    Recorded::by(told, used)
+    (told, used)
+}
+
+// Runs a reducer against a judge, and records it in the rows: up to its end, or so many questions, or as far as there is room.
+pub fn record<'a, R: Reducer, J: Judge>(
+    reducer: &mut R,
+    judge: &mut J,
+    count: u64,
+    limit: u64,
+    row: &'a mut [u64],
+    out: &'a mut [u64],
+) -> Transcript<'a>
+    ensures same { J.meaning judge.new ≡ J.meaning judge.old }
+    ensures recorded { RecordSays R.does (J.meaning judge.old) reducer.old count limit (length row.old) (length out.old) result.exchanges.now (ending result.end) reducer.new }
+{
+    let (told, used) = exchange(reducer, judge, count, limit, row, out);
+    Transcript {
+        exchanges: &row[..used],
+        end: End::by(told, out),
+    }
 }
 
 // What is recorded of the reducer itself keeps the promises, for every judge.

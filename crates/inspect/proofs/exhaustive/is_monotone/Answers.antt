@@ -1,15 +1,13 @@
-use Rattle.std.proofs.Common.{Bool, Some, Decides, sym, refl, subst, arith}
-use Rattle.std.proofs.lemmas.Bool.{le-leb}
+use Rattle.std.proofs.Common.{◌≡◌, Bool, Decides, sym, refl, ap, ◌∙◌, subst, arith}
+use Rattle.std.proofs.lemmas.Bool.{leb-true}
 use Rattle.bisect.specs.Judge.{Monotone}
-use Rattle.inspect.specs.Exhaustive.{MonotoneSays}
+use Rattle.inspect.specs.Exhaustive.{grows}
 use Rattle.inspect.proofs.Coded.{grows_decides}
 use Rattle.inspect.proofs.exhaustive.is_monotone.Goals as goal
 
-pub returns : goal.returns
-returns g c =
+pub returns-clause-said : goal.returns-clause-said
+returns-clause-said g c =
     let f = g.J.Judge.meaning c.args.judge.now in
-    let right = subst (λ (b : Bool). Decides b (Monotone f c.args.parts)) (sym c.grows.ensures.value) (grows_decides c.args.parts f (omega arith)) in
-    record {
-      same = c.grows.ensures.same;
-      said = subst (λ (b : Bool). MonotoneSays b c.args.parts f (Some c.grows.result)) (sym (le-leb c.args.parts 9 (omega arith))) (c.grows.result, refl, right);
-    }
+    let low = c.in_ok-few.ensures.0 in
+    let value : c.grows.result ≡ grows c.args.parts f = c.grows.ensures.value ∙ ap (λ n. grows n f) c.in_ok-few.ensures.1 in
+    rw low (c.grows.result, refl, subst (λ (b : Bool). Decides b (Monotone f c.args.parts)) (sym value) (grows_decides c.args.parts f (omega (arith, leb-true c.args.parts 9 low))))

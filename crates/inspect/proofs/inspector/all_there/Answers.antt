@@ -1,18 +1,9 @@
-use Rattle.std.proofs.Common.{sym, ap, ◌∙◌}
-use Rattle.subset.specs.Parts.{some_of}
+use Rattle.std.proofs.Common.{rules, tests}
+use Rattle.std.proofs.lemmas.Iterator.Search.{all_from_yields_List}
 use Rattle.inspect.specs.Inspector.{there}
-use Rattle.judges.proofs.Rows.{every_first, every_rest}
+use Rattle.judges.proofs.Listed.{lists_yield}
 use Rattle.inspect.proofs.inspector.all_there.Goals as goal
 
-pub returns-then-not-is_subset : goal.returns-then-not-is_subset
-returns-then-not-is_subset c =
-    let here = ap (some_of c.args.parts) (sym c.parted.ensures.question) ∙ sym c.is_subset.ensures ∙ c.if-not-is_subset.true in
-    sym (sym c.loop-exchange.invariant ∙ every_first (there c.args.parts) _ _ _ c.in-Some.ensures.0 here)
-
-pub loop-exchange-preserved : goal.loop-exchange-preserved
-loop-exchange-preserved c =
-    let here = ap (some_of c.args.parts) (sym c.parted.ensures.question) ∙ sym c.is_subset.ensures ∙ c.if-not-is_subset.false in
-    every_rest (there c.args.parts) _ _ _ c.in-Some.ensures.0 here ∙ c.loop-exchange.invariant
-
 pub returns : goal.returns
-returns c = let none = c.in_default.ensures in let e = c.loop-exchange.invariant in rw none at e
+returns c =
+    all_from_yields_List (there c.args.parts) c.all.new.self _ _ c.all.ensures.ran (lists_yield _ c.lists.ensures.all) (λ x b q k. search (rules, tests))
