@@ -29,11 +29,6 @@ Answers s (Err e) memory₁ out out₁ = ⊥
 abbrev pub Refuses : Refusal → (memory out : List ℕ) → Result Told Refusal → (memory₁ out₁ : List ℕ) → Type 0
 Refuses e memory out r memory₁ out₁ = (r ≡ Err e) × (memory₁ ≡ memory) × (out₁ ≡ out)
 
--- nothing, unless there is a refusal
-abbrev pub unless : Option Refusal → Result (Unit {0}) Refusal
-unless None = Ok tt
-unless (Some e) = Err e
-
 -- an event as the engine is told it
 abbrev pub event_of : Event → engine.Event
 event_of (Parts n) = parts n

@@ -30,7 +30,7 @@ const INDEX: usize = 4;
 
 const WORDS: usize = 8;
 
-// The phases as the memory has them.
+// The phases, which a lent memory has as numbers.
 const IDLE: u64 = 0;
 
 const FIRST: u64 = 1;
@@ -357,8 +357,8 @@ mod tests {
     // Which of the parts 0, 1 and 2 are among the first so many of the row, as bits.
     fn bits(out: &[u64], count: u64) -> usize {
         let mut seen = 0;
-        for (i, part) in out.iter().enumerate() {
-            if (i as u64) < count && *part < 3 {
+        for part in out.iter().take(count as usize) {
+            if *part < 3 {
                 seen |= 1 << *part;
             }
         }
