@@ -1,7 +1,7 @@
 -- What a recording rests on.
-use Rattle.std.proofs.Common.{◌≡◌, ℕ, suc, ◌+◌, ◌<◌, ◌≤◌, Bool, true, false, List, [], ◌∷◌, ◌++◌, reverse, length, take, drop, set, Some, None, Option, Ok, Err, Result, sym, refl, ap, ◌∙◌, subst, ap₂, inl, inr, append_assoc, append-nil, arith, length-append, length-set, take_at}
+use Rattle.std.proofs.Common.{◌≡◌, ℕ, suc, ◌+◌, ◌-◌, ◌<◌, ◌≤◌, Bool, true, false, List, [], ◌∷◌, ◌++◌, reverse, length, take, drop, set, Some, None, Option, Ok, Err, Result, sym, refl, ap, ◌∙◌, subst, inl, inr, append_assoc, append-nil, arith, length-append, take_at}
 use borrow.Rule.Slice.PartMut.{put_mid}
-use Rattle.std.proofs.lemmas.List.{take_more_set, drop-drop, drop-set-lt, length-take-le, reverse-append}
+use Rattle.std.proofs.lemmas.List.{take_all, drop_all, drop-drop, length-take-le, length-drop, reverse-append, take-append-drop}
 use Rattle.subset.specs.Says.{laid}
 use Rattle.bisect.specs.Judge.{Judge}
 use Rattle.bisect.specs.Engine.{Act, ask, left, sound, refused}
@@ -14,7 +14,7 @@ use Rattle.reduce.specs.declared.Refusal.TheVariants.{Unfit}
 use Rattle.reduce.specs.declared.Told.{Told}
 use Rattle.reduce.specs.declared.Told.TheVariants.{Ask, Rest, Sound, TooMany}
 use Rattle.judges.specs.Spelled.{spelled}
-use Rattle.inspect.specs.Recorder.{Roomy, AppendSays, Dialogue, Stopped, Exchanged}
+use Rattle.inspect.specs.Recorder.{Roomy, WriteSays, Dialogue, Stopped, Exchanged}
 use Rattle.judges.proofs.Shown.{shown}
 
 -- ---- what a step tells of stands in the row
@@ -38,24 +38,35 @@ react_roomy true m ev out r m₁ row h = heard_roomy (fault_of m ev) m ev out r 
 react_roomy false m ev out r m₁ row h = refused_roomy Unfit r row h.0
 
 -- ---- an exchange in the row
-entry_front : (row : List ℕ) (i x a : ℕ) → i + 1 < length row → take (i + 2) (set (set row i x) (i + 1) a) ≡ take i row ++ (x ∷ a ∷ [])
-entry_front row i x a h =
-    let long : i + 1 < length (set row i x) = omega (arith, length-set row i x) in
-    ap (λ k. take k (set (set row i x) (i + 1) a)) (let e : i + 2 ≡ i + 1 + 1 = omega arith in e)
-    ∙ take_more_set (set row i x) (i + 1) a long ∙ ap (λ (l : List ℕ). l ++ a ∷ []) (take_more_set row i x (omega arith))
-    ∙ append_assoc (take i row) (x ∷ []) (a ∷ [])
+pub exchange_laid : (row : List ℕ) (a k x : ℕ) (q ys : List ℕ) → 2 + length q ≤ length row → ys ≡ q → k ≡ length q → x ≡ suc (length q)
+    → put_mid 2 k (set (set row 0 x) 1 a) ys ≡ suc (length q) ∷ a ∷ (q ++ drop (2 + length q) row)
+exchange_laid [] a k x q ys h e d c = absurd (omega arith)
+exchange_laid (r ∷ []) a k x q ys h e d c = absurd (omega arith)
+exchange_laid (r ∷ s ∷ row) a k x q ys h e d c =
+    let two : 2 + length q ≡ suc (suc (length q)) = omega arith in rw (two, e, d, c) refl
 
-entry_behind : (row : List ℕ) (i x a k : ℕ) → drop k (drop (i + 2) (set (set row i x) (i + 1) a)) ≡ drop (i + (2 + k)) row
-entry_behind row i x a k =
-    drop-drop k (i + 2) (set (set row i x) (i + 1) a) ∙ drop-set-lt (i + 2 + k) (set row i x) (i + 1) a (omega arith) ∙ drop-set-lt (i + 2 + k) row i x (omega arith)
-    ∙ ap (λ j. drop j row) (let e : i + 2 + k ≡ i + (2 + k) = omega arith in e)
+-- written behind so many numbers of a row, it is laid there
+module _ (row rest₁ : List ℕ) (i a : ℕ) (q : List ℕ) (low : i ≤ length row) where
+  rest_is : take (length row - i) (drop i row) ≡ drop i row
+  rest_is = take_all (length row - i) (drop i row) (omega (arith, length-drop i row))
 
-pub entry_laid : (row : List ℕ) (i a k x : ℕ) (q ys : List ℕ) → i + (2 + length q) ≤ length row → ys ≡ q → k ≡ length q → x ≡ suc (length q)
-    → put_mid (i + 2) k (set (set row i x) (i + 1) a) ys ≡ laid row i (suc (length q) ∷ a ∷ q)
-entry_laid row i a k x q ys h e d c =
-    ap₂ (λ (front behind : List ℕ). front ++ behind) (entry_front row i x a (omega arith)) (ap₂ (λ (s t : List ℕ). s ++ t) e (entry_behind row i x a k))
-    ∙ append_assoc (take i row) (x ∷ a ∷ []) (q ++ drop (i + (2 + k)) row)
-    ∙ ap₂ (λ j m. take i row ++ (j ∷ a ∷ (q ++ drop (i + m) row))) c (let s : 2 + k ≡ suc (suc (length q)) = omega arith in s)
+  none_behind : drop (length row - i) (drop i row) ≡ []
+  none_behind = drop_all (length row - i) (drop i row) (omega (arith, length-drop i row))
+
+  pub written : (n : ℕ) → WriteSays (take (length row - i) (drop i row)) a q (Some n) rest₁
+      → (i + n ≡ i + (2 + length q)) × (i + n ≤ length row) × (put_mid i (length row - i) row rest₁ ≡ laid row i (suc (length q) ∷ a ∷ q))
+  written n (e, l, w) = (
+    ap (λ k. i + k) e,
+    omega (arith, l, ap length rest_is, length-drop i row),
+    rw (none_behind, w, rest_is, append-nil (suc (length q) ∷ a ∷ (q ++ drop (2 + length q) (drop i row))), drop-drop (2 + length q) i row)
+        (let two : 2 + length q ≡ suc (suc (length q)) = omega arith in rw two refl),
+  )
+
+  pub unwritten : WriteSays (take (length row - i) (drop i row)) a q None rest₁ → (put_mid i (length row - i) row rest₁ ≡ row) × (length row < i + (2 + length q))
+  unwritten (w, l) = (
+    rw (none_behind, w, rest_is, append-nil (drop i row)) (take-append-drop i row),
+    omega (arith, l, ap length rest_is, length-drop i row),
+  )
 
 -- ---- a recording that goes on
 laid_front : (row : List ℕ) (n end : ℕ) (ys : List ℕ) → n ≤ length row → end ≡ n + length ys → take end (laid row n ys) ≡ take n row ++ ys
@@ -98,10 +109,10 @@ module _ {S : Type 0} (does : S → Event → S → Result Told Refusal → List
   going_asks asked used k t r row out e g = subst (λ (x : Result Told Refusal). Going asked used t x row out) e g
 
   pub going_turn : (asked used v end : ℕ) (t u : S) (q : List ℕ) (was r : Result Told Refusal) (row row₁ out out₁ : List ℕ) → was ≡ Ok (Ask (length q)) → take (length q) out ≡ q
-      → Going asked used t was row out → length row₁ ≡ length row → v ≡ f q → AppendSays row used v q (Some end) row₁ → does t (Said v) u r out₁ → Roomy r (length out₁)
+      → Going asked used t was row out → v ≡ f q → (end ≡ used + (2 + length q)) × (end ≤ length row) × (row₁ ≡ laid row used (suc (length q) ∷ v ∷ q)) → does t (Said v) u r out₁ → Roomy r (length out₁)
       → Going (asked + 1) end u r row₁ out₁
   unfolding Dialogue
-  going_turn asked used v end t u q was r row row₁ out out₁ asks is on same says (at, fit, put) d h =
+  going_turn asked used v end t u q was r row row₁ out out₁ asks is on says (at, fit, put) d h =
       let g = going_asks asked used (length q) t was row out asks on in
       record {
         exchanges = g.exchanges ++ (v ∷ q) ∷ [];
@@ -109,13 +120,15 @@ module _ {S : Type 0} (does : S → Event → S → Result Told Refusal → List
         spells = ap (take end) put ∙ laid_front row used end (suc (length q) ∷ v ∷ q) g.used_low (omega arith) ∙ ap (λ (l : List ℕ). l ++ (suc (length q) ∷ v ∷ q)) g.spells
             ∙ sym (spelled_push g.exchanges (v ∷ q));
         counted = length-append g.exchanges ((v ∷ q) ∷ []) ∙ ap (λ j. j + 1) g.counted;
-        used_low = omega arith;
+        used_low =
+            let e : List ℕ = suc (length q) ∷ v ∷ q in
+            omega (arith, ap length put, length-append (take used row) (e ++ drop (used + length e) row), length-append e (drop (used + length e) row), length-take-le used row g.used_low);
         roomy = h;
       }
 
   -- where the exchange has no room
   pub going_full : (asked used v limit : ℕ) (t : S) (q : List ℕ) (r : Result Told Refusal) (row row₁ out : List ℕ) → r ≡ Ok (Ask (length q)) → Going asked used t r row out
-      → AppendSays row used v q None row₁ → Going asked used t r row₁ out × Stopped r asked limit used (length row₁)
+      → (row₁ ≡ row) × (length row < used + (2 + length q)) → Going asked used t r row₁ out × Stopped r asked limit used (length row₁)
   going_full asked used v limit t q r row row₁ out asks on (same, full) = (subst (λ (x : List ℕ). Going asked used t r x out) (sym same) on, rw asks (inr (rw same full)))
 
   pub going_ends : (o : S) (n asked used limit : ℕ) (t : S) (r : Result Told Refusal) (row out : List ℕ) → does o (Parts n) s first begun → Going asked used t r row out → asked ≤ limit

@@ -1,7 +1,6 @@
 -- What is recorded of a run of any reducer. Assumes nothing: these are definitions.
-use Rattle.std.specs.Prelude.{◌≡◌, ℕ, suc, ◌+◌, ◌<◌, ◌≤◌, ◌⊎◌, List, [], ◌∷◌, reverse, length, take, Some, None, Option, Ok, Err, Result, ◌≢◌}
+use Rattle.std.specs.Prelude.{◌≡◌, ℕ, suc, ◌+◌, ◌<◌, ◌≤◌, ◌⊎◌, List, [], ◌∷◌, ◌++◌, reverse, length, take, drop, Some, None, Option, Ok, Err, Result, ◌≢◌}
 use Rattle.std.specs.Borrow.{Bor}
-use Rattle.subset.specs.Says.{laid}
 use Rattle.bisect.specs.Judge.{Judge, Monotone}
 use Rattle.reduce.specs.Entry.{Reacts, fits}
 use Rattle.reduce.specs.declared.Event.{Event}
@@ -51,11 +50,11 @@ Dialogue {S} does f begun (e ∷ es) t r row =
     (u : S) × (before : List ℕ) × Dialogue does f begun es u (Ok (told.Ask (length (question_of e)))) before
     × (take (length (question_of e)) before ≡ question_of e) × (answer_of e ≡ f (question_of e)) × does u (Said (answer_of e)) t r row
 
--- an exchange was appended to a row of which so much was used; or it has no room there, and the row is as it was
-abbrev pub AppendSays : (row : List ℕ) (used answer : ℕ) (question : List ℕ) → Option ℕ → (row₁ : List ℕ) → Type 0
-AppendSays row used answer question None row₁ = (row₁ ≡ row) × (length row < used + (2 + length question))
-AppendSays row used answer question (Some end) row₁ =
-    (end ≡ used + (2 + length question)) × (end ≤ length row) × (row₁ ≡ laid row used (suc (length question) ∷ answer ∷ question))
+-- an exchange was written to the beginning of a row; or there is no room, and the row is as it was
+abbrev pub WriteSays : (row : List ℕ) (answer : ℕ) (question : List ℕ) → Option ℕ → (row₁ : List ℕ) → Type 0
+WriteSays row answer question None row₁ = (row₁ ≡ row) × (length row < 2 + length question)
+WriteSays row answer question (Some end) row₁ =
+    (end ≡ 2 + length question) × (end ≤ length row) × (row₁ ≡ suc (length question) ∷ answer ∷ (question ++ drop (2 + length question) row))
 
 -- no more is recorded: so many questions were asked, or the next has no room
 abbrev pub Stopped : Result Told Refusal → (asked limit used room : ℕ) → Type 0

@@ -4,7 +4,7 @@ ghost use Rattle.reduce.specs.declared.Event.{Event};
 ghost use Rattle.reduce.specs.declared.Refusal.{Refusal};
 ghost use Rattle.reduce.specs.declared.Told.{Told};
 ghost use Rattle.inspect.specs.Inspector.{ending};
-ghost use Rattle.inspect.specs.Recorder.{AppendSays, Asked, Does, Exchanged, RecordSays, ReducerKept, Roomy, end_by};
+ghost use Rattle.inspect.specs.Recorder.{Asked, Does, Exchanged, RecordSays, ReducerKept, Roomy, WriteSays, end_by};
 
 use super::inspector::{End, Transcript};
 use judges::Judge;
@@ -68,21 +68,17 @@ fn asked(told: Result<Told, Refusal>, out: &[u64]) -> Option<&[u64]>
     }
 }
 
-// Appends an exchange to a row of which so much is used, and says how much is used then; none if it has no room.
-// Row and use are no struct: a fact about a field can't stand beside a `&mut` in it, so each method would require it again.
-fn append(row: &mut [u64], used: usize, answer: u64, question: &[u64]) -> Option<usize>
-    requires { used ≤ length row.old }
-    ensures { AppendSays row.old used answer question.now result row.new }
+// Writes an exchange to the beginning of a row, and says how many numbers it has; none if there is no room.
+fn write_exchange(row: &mut [u64], answer: u64, question: &[u64]) -> Option<usize>
+    ensures { WriteSays row.old answer question.now result row.new }
 {
-    let room = row.len() - used;
-    if room < 2 || room - 2 < question.len() {
+    if row.len() < 2 || row.len() - 2 < question.len() {
         return None;
     }
-    let first = used + 2;
-    let end = first + question.len();
-    row[used] = question.len() as u64 + 1;
-    row[used + 1] = answer;
-    row[first..end].copy_from_slice(question);
+    let end = 2 + question.len();
+    row[0] = question.len() as u64 + 1;
+    row[1] = answer;
+    row[2..end].copy_from_slice(question);
     Some(end)
 }
 
@@ -106,10 +102,10 @@ fn exchange<R: Reducer, J: Judge>(
             return (told, used);
         };
         let answer = judge.says(question);
-        let Some(end) = append(row, used, answer, question) else {
+        let Some(length) = write_exchange(&mut row[used..], answer, question) else {
             return (told, used);
         };
-        used = end;
+        used += length;
         told = reducer.react(Event::Said(answer), out);
     }
     (told, used)
