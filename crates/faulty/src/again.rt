@@ -1,35 +1,30 @@
 // Asks of all again and again, whatever it hears.
 ghost use Rattle.std.specs.Prelude.{◌≡◌};
 
-use super::telling::{MOST, all_of, ask};
+use super::code::{Code, begin_with_all};
 use inspect::Reducer;
-use reduce::Told;
+use reduce::{Event, Refusal, Told};
 
-#[derive(Clone, Copy)]
+#[derive(Clone, Copy, Debug, PartialEq)]
 pub struct AsksAgain {
-    parts: u64,
+    all: Code,
 }
 
 impl AsksAgain {
     pub fn new() -> AsksAgain
-        ensures { result.parts ≡ 0 }
+        ensures { result.all.0 ≡ 0 }
     {
-        AsksAgain { parts: 0 }
+        AsksAgain { all: Code(0) }
     }
 }
 
 impl Reducer for AsksAgain {
     ghost does = { λ _ _ _ _ _. Unit {0} };
 
-    fn begin(&mut self, count: u64, out: &mut [u64]) -> Told {
-        if count > MOST {
-            return Told::TooMany;
+    fn react(&mut self, event: Event, out: &mut [u64]) -> Result<Told, Refusal> {
+        match event {
+            Event::Parts(count) => begin_with_all(self, count, out, |all| AsksAgain { all }),
+            Event::Said(_) => self.all.ask(out),
         }
-        self.parts = count;
-        ask(all_of(count), out)
-    }
-
-    fn hear(&mut self, _answer: u64, out: &mut [u64]) -> Told {
-        ask(all_of(self.parts), out)
     }
 }

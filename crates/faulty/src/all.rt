@@ -2,70 +2,72 @@
 ghost use Rattle.std.specs.Prelude.{◌≡◌, length, None};
 ghost use Rattle.inspect.specs.Recorder.{Roomy};
 
-use super::telling::{MOST, all_of, ask, leave};
+use super::code::{Code, begin_with_all};
 use bisect::fails;
 use inspect::Reducer;
-use reduce::Told;
+use reduce::{Event, Refusal, Told};
 
 // Asks of every subset, by its number, and tells the first of those that fail with the fewest parts.
-#[derive(Clone, Copy)]
+#[derive(Clone, Copy, Debug, PartialEq)]
 pub struct TriesAll {
-    all: u64,
+    all: Code,
     // The best so far.
-    best: u64,
+    best: Code,
     // What was asked of, once all together were.
-    asked: Option<u64>,
+    asked: Option<Code>,
 }
 
 impl TriesAll {
     pub fn new() -> TriesAll
-        ensures { result ≡ record { all = 0; best = 0; asked = None } }
+        ensures { result ≡ record { all = record { 0 = 0 }; best = record { 0 = 0 }; asked = None } }
     {
         TriesAll {
-            all: 0,
-            best: 0,
+            all: Code(0),
+            best: Code(0),
             asked: None,
         }
     }
 
     // Asks of a subset, or, past the last, tells the best.
-    fn on(&mut self, code: u64, out: &mut [u64]) -> Told
+    fn on(&mut self, code: Code, out: &mut [u64]) -> Result<Told, Refusal>
         ensures { Roomy result (length out.new) }
     {
         if code >= self.all {
-            return leave(self.best, out);
+            return self.best.leave(out);
         }
         self.asked = Some(code);
-        ask(code, out)
+        code.ask(out)
+    }
+
+    fn hear(&mut self, failed: bool, out: &mut [u64]) -> Result<Told, Refusal>
+        ensures { Roomy result (length out.new) }
+    {
+        match self.asked {
+            None if failed => self.on(Code(0), out),
+            None => Ok(Told::Sound),
+            Some(code) => {
+                if failed && code.size() < self.best.size() {
+                    self.best = code;
+                }
+                self.on(code.next(), out)
+            }
+        }
     }
 }
 
 impl Reducer for TriesAll {
     ghost does = { λ _ _ _ _ _. Unit {0} };
 
-    fn begin(&mut self, count: u64, out: &mut [u64]) -> Told {
-        if count > MOST {
-            return Told::TooMany;
+    fn react(&mut self, event: Event, out: &mut [u64]) -> Result<Told, Refusal> {
+        match event {
+            Event::Parts(count) => begin_with_all(self, count, out, |all| {
+                TriesAll {
+                    all,
+                    best: all,
+                    asked: None,
+                }
+            }),
+            Event::Said(answer) => self.hear(fails(answer), out),
         }
-        let all = all_of(count);
-        *self = TriesAll {
-            all,
-            best: all,
-            asked: None,
-        };
-        ask(all, out)
-    }
-
-    fn hear(&mut self, answer: u64, out: &mut [u64]) -> Told {
-        let Some(code) = self.asked else {
-            if !fails(answer) {
-                return Told::Sound;
-            }
-            return self.on(0, out);
-        };
-        if fails(answer) && code.count_ones() < self.best.count_ones() {
-            self.best = code;
-        }
-        self.on(code.saturating_add(1), out)
     }
 }

@@ -1,21 +1,35 @@
 // Halves from both ends, and believes that failing grows.
-ghost use Rattle.std.specs.Prelude.{◌≡◌, ◌+◌, ◌-◌, ◌/◌, ◌^◌, min, length, if◌then◌else◌};
+ghost use Rattle.std.specs.Prelude.{◌≡◌, ◌+◌, ◌-◌, ◌/◌, ◌^◌, min, length, if◌then◌else◌, nat_lt};
 ghost use Rattle.inspect.specs.Recorder.{Roomy};
 ghost use Rattle.faulty.specs.Halves.{middle, upper};
 
-use super::telling::{MOST, all_of, ask, leave};
+use super::code::{Code, begin_with_all};
 use bisect::fails;
 use inspect::Reducer;
-use reduce::Told;
+use reduce::{Event, Refusal, Told};
 
 // What lies from `lo` to `hi` is looked for by halves.
-#[derive(Clone, Copy)]
+#[derive(Clone, Copy, Debug, PartialEq)]
 struct Range {
     lo: u64,
     hi: u64,
 }
 
 impl Range {
+    // All there is.
+    fn up_to(hi: u64) -> Range
+        ensures { result ≡ record { lo = 0; hi = hi } }
+    {
+        Range { lo: 0, hi }
+    }
+
+    // More than one is left.
+    fn is_open(self) -> bool
+        ensures { result ≡ nat_lt self.lo self.hi }
+    {
+        self.lo < self.hi
+    }
+
     // Half of what is open, rounded down.
     fn half(self) -> u64
         ensures { result ≡ (self.hi - self.lo) / 2 }
@@ -70,7 +84,7 @@ impl Range {
 }
 
 // What it looks for.
-#[derive(Clone, Copy)]
+#[derive(Clone, Copy, Debug, PartialEq)]
 enum Phase {
     // Whether all together fail.
     All,
@@ -82,7 +96,7 @@ enum Phase {
 
 // Finds the shortest beginning that fails and the shortest end that fails, each by halves and on its own, and tells what they have in common:
 // if failing grows and one set is to blame, that set lies in both.
-#[derive(Clone, Copy)]
+#[derive(Clone, Copy, Debug, PartialEq)]
 pub struct BothEnds {
     parts: u64,
     phase: Phase,
@@ -99,60 +113,55 @@ impl BothEnds {
     }
 
     // Asks of a shorter end, or has found the shortest.
-    fn end(&mut self, beginning: u64, range: Range, out: &mut [u64]) -> Told
+    fn end(&mut self, beginning: u64, range: Range, out: &mut [u64]) -> Result<Told, Refusal>
         ensures { Roomy result (length out.new) }
     {
         self.phase = Phase::End(beginning, range);
-        if range.lo < range.hi {
-            return ask(all_of(self.parts) & !all_of(range.above()), out);
+        if range.is_open() {
+            return Code::all_of(self.parts)
+                .but(Code::all_of(range.above()))
+                .ask(out);
         }
-        leave(all_of(beginning) & !all_of(range.lo), out)
+        Code::all_of(beginning)
+            .but(Code::all_of(range.lo))
+            .leave(out)
     }
 
     // Asks of a shorter beginning, or has found the shortest.
-    fn beginning(&mut self, range: Range, out: &mut [u64]) -> Told
+    fn beginning(&mut self, range: Range, out: &mut [u64]) -> Result<Told, Refusal>
         ensures { Roomy result (length out.new) }
     {
         self.phase = Phase::Beginning(range);
-        if range.lo < range.hi {
-            return ask(all_of(range.below()), out);
+        if range.is_open() {
+            return Code::all_of(range.below()).ask(out);
         }
-        self.end(
-            range.hi,
-            Range {
-                lo: 0,
-                hi: self.parts,
-            },
-            out,
-        )
+        self.end(range.hi, Range::up_to(self.parts), out)
+    }
+
+    fn hear(&mut self, failed: bool, out: &mut [u64]) -> Result<Told, Refusal>
+        ensures { Roomy result (length out.new) }
+    {
+        match self.phase {
+            Phase::All if failed => self.beginning(Range::up_to(self.parts), out),
+            Phase::All => Ok(Told::Sound),
+            Phase::Beginning(range) => self.beginning(range.after_beginning(failed), out),
+            Phase::End(beginning, range) => self.end(beginning, range.after_end(failed), out),
+        }
     }
 }
 
 impl Reducer for BothEnds {
     ghost does = { λ _ _ _ _ _. Unit {0} };
 
-    fn begin(&mut self, count: u64, out: &mut [u64]) -> Told {
-        if count > MOST {
-            return Told::TooMany;
-        }
-        self.parts = count;
-        self.phase = Phase::All;
-        ask(all_of(count), out)
-    }
-
-    fn hear(&mut self, answer: u64, out: &mut [u64]) -> Told {
-        let failed = fails(answer);
-        match self.phase {
-            Phase::All if failed => self.beginning(
-                Range {
-                    lo: 0,
-                    hi: self.parts,
-                },
-                out,
-            ),
-            Phase::All => Told::Sound,
-            Phase::Beginning(range) => self.beginning(range.after_beginning(failed), out),
-            Phase::End(beginning, range) => self.end(beginning, range.after_end(failed), out),
+    fn react(&mut self, event: Event, out: &mut [u64]) -> Result<Told, Refusal> {
+        match event {
+            Event::Parts(count) => begin_with_all(self, count, out, |_| {
+                BothEnds {
+                    parts: count,
+                    phase: Phase::All,
+                }
+            }),
+            Event::Said(answer) => self.hear(fails(answer), out),
         }
     }
 }

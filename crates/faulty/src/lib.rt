@@ -11,10 +11,10 @@ pub use unclear::UnclearFails;
 
 mod again;
 mod all;
+mod code;
 mod ends;
 mod halves;
 mod once;
-mod telling;
 mod unclear;
 
 // What the inspector finds in transcripts that no machine above leaves.
@@ -23,24 +23,16 @@ mod tests {
     use inspect::{End, Finding, Transcript, inspect};
     use judges::{Judge, Sets, Table};
 
-    fn ended(end: End, exchanges: &[u64]) -> Transcript<'_> {
-        Transcript {
-            exchanges,
-            end,
-            left: &[],
-        }
+    fn ended<'a>(end: End<'a>, exchanges: &'a [u64]) -> Transcript<'a> {
+        Transcript { exchanges, end }
     }
 
     fn leaves<'a>(left: &'a [u64], exchanges: &'a [u64]) -> Transcript<'a> {
-        Transcript {
-            exchanges,
-            end: End::Left,
-            left,
-        }
+        ended(End::Left(left), exchanges)
     }
 
     // Fails what has 1 and 4, of six parts.
-    fn of_six(transcript: Transcript<'_>) -> Finding {
+    fn of_six(transcript: Transcript<'_>) -> Result<(), Finding> {
         inspect(&mut Sets { sets: &[2, 1, 4] }, 6, false, transcript)
     }
 
@@ -48,53 +40,51 @@ mod tests {
 
     #[test]
     fn ends_too_soon(rt: HostRuntime) {
-        assert!(rt; matches!(of_six(ended(End::Refused, &[])), Finding::Refused));
-        assert!(rt; matches!(of_six(ended(End::Sound, &[])), Finding::Unasked));
-        assert!(rt; matches!(of_six(ended(End::Sound, &ALL_FAIL)), Finding::NotSound));
-        assert!(rt; matches!(of_six(ended(End::Unended, &ALL_FAIL)), Finding::Unended));
+        assert_eq!(rt; of_six(ended(End::Refused, &[])), Err(Finding::Refused));
+        assert_eq!(rt; of_six(ended(End::Sound, &[])), Err(Finding::Unasked));
+        assert_eq!(rt;
+            of_six(ended(End::Sound, &ALL_FAIL)),
+            Err(Finding::NotSound)
+        );
+        assert_eq!(rt;
+            of_six(ended(End::Unended, &ALL_FAIL)),
+            Err(Finding::Unended)
+        );
     }
 
     #[test]
     fn leaves_another(rt: HostRuntime) {
-        assert!(rt; matches!(of_six(leaves(&[4, 1], &ALL_FAIL)), Finding::NoSubset));
-        assert!(rt; matches!(of_six(leaves(&[1, 6], &ALL_FAIL)), Finding::NoSubset));
-        assert!(rt; matches!(of_six(leaves(&[1], &ALL_FAIL)), Finding::Passes));
-        assert!(rt; matches!(of_six(leaves(&[0, 1, 4], &ALL_FAIL)), Finding::Loose));
-        assert!(rt; matches!(of_six(leaves(&[1, 4], &ALL_FAIL)), Finding::Nothing));
+        assert_eq!(rt; of_six(leaves(&[4, 1], &ALL_FAIL)), Err(Finding::NoSubset));
+        assert_eq!(rt; of_six(leaves(&[1, 6], &ALL_FAIL)), Err(Finding::NoSubset));
+        assert_eq!(rt; of_six(leaves(&[1], &ALL_FAIL)), Err(Finding::Passes));
+        assert_eq!(rt; of_six(leaves(&[0, 1, 4], &ALL_FAIL)), Err(Finding::Loose));
+        assert_eq!(rt; of_six(leaves(&[1, 4], &ALL_FAIL)), Ok(()));
     }
 
     // The answer 0 about all six, and a question about part 6.
     #[test]
     fn asks_wrongly(rt: HostRuntime) {
-        assert!(rt;
-            matches!(
-                of_six(leaves(&[1, 4], &[7, 0, 0, 1, 2, 3, 4, 5])),
-                Finding::Misheard
-            )
+        assert_eq!(rt;
+            of_six(leaves(&[1, 4], &[7, 0, 0, 1, 2, 3, 4, 5])),
+            Err(Finding::Misheard)
         );
-        assert!(rt; matches!(of_six(leaves(&[1, 4], &[2, 0, 6])), Finding::Strayed));
+        assert_eq!(rt; of_six(leaves(&[1, 4], &[2, 0, 6])), Err(Finding::Strayed));
     }
 
     #[test]
     fn too_many_parts(rt: HostRuntime) {
         let mut none = Sets { sets: &[] };
-        assert!(rt;
-            matches!(
-                inspect(&mut none, 4097, false, ended(End::Refused, &[])),
-                Finding::Nothing
-            )
+        assert_eq!(rt;
+            inspect(&mut none, 4097, false, ended(End::Refused, &[])),
+            Ok(())
         );
-        assert!(rt;
-            matches!(
-                inspect(&mut none, 4097, false, ended(End::Sound, &[])),
-                Finding::NotRefused
-            )
+        assert_eq!(rt;
+            inspect(&mut none, 4097, false, ended(End::Sound, &[])),
+            Err(Finding::NotRefused)
         );
-        assert!(rt;
-            matches!(
-                inspect(&mut none, 4097, false, ended(End::Refused, &[1, 0])),
-                Finding::NotRefused
-            )
+        assert_eq!(rt;
+            inspect(&mut none, 4097, false, ended(End::Refused, &[1, 0])),
+            Err(Finding::NotRefused)
         );
     }
 
@@ -102,24 +92,18 @@ mod tests {
     #[test]
     fn sound_or_not(rt: HostRuntime) {
         let mut none = Sets { sets: &[] };
-        assert!(rt;
-            matches!(
-                inspect(&mut none, 1, false, ended(End::Sound, &[2, 0, 0])),
-                Finding::Nothing
-            )
+        assert_eq!(rt;
+            inspect(&mut none, 1, false, ended(End::Sound, &[2, 0, 0])),
+            Ok(())
         );
-        assert!(rt;
-            matches!(
-                inspect(&mut none, 1, false, ended(End::Sound, &[2, 0, 0, 1, 0])),
-                Finding::AskedMore
-            )
+        assert_eq!(rt;
+            inspect(&mut none, 1, false, ended(End::Sound, &[2, 0, 0, 1, 0])),
+            Err(Finding::AskedMore)
         );
         let mut only_none = Table { numbers: &[1, 0] };
-        assert!(rt;
-            matches!(
-                inspect(&mut only_none, 1, false, leaves(&[], &[1, 1])),
-                Finding::WasSound
-            )
+        assert_eq!(rt;
+            inspect(&mut only_none, 1, false, leaves(&[], &[1, 1])),
+            Err(Finding::WasSound)
         );
     }
 
@@ -128,23 +112,17 @@ mod tests {
     fn many_questions(rt: HostRuntime) {
         let asked = [1; 32];
         let mut all = Sets { sets: &[0] };
-        assert!(rt;
-            matches!(
-                inspect(&mut all, 0, false, leaves(&[], &asked[..28])),
-                Finding::Nothing
-            )
+        assert_eq!(rt;
+            inspect(&mut all, 0, false, leaves(&[], &asked[..28])),
+            Ok(())
         );
-        assert!(rt;
-            matches!(
-                inspect(&mut all, 0, false, leaves(&[], &asked[..30])),
-                Finding::ManyIfMonotone
-            )
+        assert_eq!(rt;
+            inspect(&mut all, 0, false, leaves(&[], &asked[..30])),
+            Err(Finding::ManyIfMonotone)
         );
-        assert!(rt;
-            matches!(
-                inspect(&mut all, 0, false, leaves(&[], &asked)),
-                Finding::TooMany
-            )
+        assert_eq!(rt;
+            inspect(&mut all, 0, false, leaves(&[], &asked)),
+            Err(Finding::TooMany)
         );
     }
 
@@ -155,7 +133,7 @@ mod tests {
             numbers: &[0, 0, 1, 0, 0, 0, 0, 1],
         };
         let all = leaves(&[0, 1, 2], &[4, 1, 0, 1, 2]);
-        assert!(rt; matches!(inspect(&mut odd, 3, false, all), Finding::Nothing));
-        assert!(rt; matches!(inspect(&mut odd, 3, true, all), Finding::SmallerFails));
+        assert_eq!(rt; inspect(&mut odd, 3, false, all), Ok(()));
+        assert_eq!(rt; inspect(&mut odd, 3, true, all), Err(Finding::SmallerFails));
     }
 }

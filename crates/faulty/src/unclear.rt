@@ -2,7 +2,7 @@
 ghost use Rattle.std.specs.Prelude.{◌≡◌, replicate};
 
 use inspect::{Machine, Reducer};
-use reduce::Told;
+use reduce::{Event, Refusal, Told};
 
 const UNCLEAR: u64 = 2;
 
@@ -27,12 +27,11 @@ impl UnclearFails {
 impl Reducer for UnclearFails {
     ghost does = { λ _ _ _ _ _. Unit {0} };
 
-    fn begin(&mut self, count: u64, out: &mut [u64]) -> Told {
-        self.machine.begin(count, out)
-    }
-
-    fn hear(&mut self, answer: u64, out: &mut [u64]) -> Told {
-        self.machine
-            .hear(if answer == UNCLEAR { FAILS } else { answer }, out)
+    fn react(&mut self, event: Event, out: &mut [u64]) -> Result<Told, Refusal> {
+        let heard = match event {
+            Event::Said(UNCLEAR) => Event::Said(FAILS),
+            _ => event,
+        };
+        self.machine.react(heard, out)
     }
 }

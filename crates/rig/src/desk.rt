@@ -1,10 +1,13 @@
 // One trial: a run is recorded and inspected.
-ghost use Rattle.std.specs.Prelude.{◌≡◌, replicate, Decides};
+ghost use Rattle.std.specs.Prelude.{◌≡◌, Some, replicate, Decides};
 ghost use Rattle.inspect.specs.Inspector.{Known};
-ghost use Rattle.rig.specs.Trial.{Inspected, Tried};
+ghost use Rattle.rig.specs.Trial.{Inspected, Tried, complaint};
+ghost use Rattle.rig.specs.declared.desk.Wrong.TheVariants.{Broken, TooMany};
 
-use inspect::{Finding, Machine, Reducer, Transcript, inspect, is_monotone, record};
-use judges::{Ended, Judge, run};
+use inspect::{Finding, Machine, Reducer, inspect, is_monotone, record};
+use judges::{Ended, Judge, RunError, run};
+use std::error::Error;
+use std::fmt;
 
 // So many questions are asked at most before a machine is stopped.
 const LIMIT: u64 = 5000;
@@ -18,7 +21,7 @@ pub struct Desk {
 }
 
 // What a trial of the reducer shows.
-#[derive(Clone, Copy)]
+#[derive(Clone, Copy, Debug, PartialEq, Eq)]
 pub struct Shown {
     // So many parts are left; none are told of where it said "sound".
     pub left: Option<u64>,
@@ -29,12 +32,33 @@ pub struct Shown {
 }
 
 // What is wrong with a trial of the reducer.
-#[derive(Clone, Copy)]
+#[derive(Clone, Copy, Debug, PartialEq, Eq)]
 pub enum Wrong {
     // It broke a promise.
     Broken(Finding),
     // It refused: there are more than 4,096 parts.
     TooMany,
+}
+
+impl fmt::Display for Wrong {
+    ghost output = { λ x. Some (complaint x) };
+
+    fn fmt<W: fmt::Write>(&self, f: &mut fmt::Formatter<W>) -> fmt::Result {
+        match self {
+            Wrong::Broken(found) => found.fmt(f),
+            Wrong::TooMany => f.write_str("too many parts"),
+        }
+    }
+}
+
+impl Error for Wrong {}
+
+impl From<Finding> for Wrong {
+    ghost from_gives = { λ finding x. x ≡ Broken finding };
+
+    fn from(finding: Finding) -> Wrong {
+        Wrong::Broken(finding)
+    }
 }
 
 // Whether failing is known to be monotone: one was told so, or it was tried.
@@ -43,6 +67,17 @@ fn is_known<J: Judge>(judge: &mut J, parts: u64, told: bool) -> bool
     ensures known { Decides result (Known told parts (J.meaning judge.old)) }
 {
     told || is_monotone(judge, parts).unwrap_or(false)
+}
+
+// Memory and row fit, so nothing else is refused.
+impl From<RunError> for Wrong {
+    ghost from_gives = { λ _ x. x ≡ TooMany };
+
+    fn from(error: RunError) -> Wrong {
+        match error {
+            RunError::TooMany | RunError::Unfit => Wrong::TooMany,
+        }
+    }
 }
 
 impl Desk {
@@ -63,11 +98,11 @@ impl Desk {
         judge: &mut J,
         parts: u64,
         told: bool,
-    ) -> Finding
+    ) -> Result<(), Finding>
         ensures same { J.meaning judge.new ≡ J.meaning judge.old }
         ensures found { Inspected R.does (J.meaning judge.old) reducer.old parts told result reducer.new }
     {
-        let recorded = record(
+        let transcript = record(
             reducer,
             judge,
             parts,
@@ -75,11 +110,6 @@ impl Desk {
             &mut self.transcript,
             &mut self.left,
         );
-        let transcript = Transcript {
-            exchanges: &self.transcript[..recorded.used],
-            end: recorded.end,
-            left: &self.left[..recorded.left as usize],
-        };
         inspect(judge, parts, told, transcript)
     }
 
@@ -93,23 +123,16 @@ impl Desk {
         ensures same { J.meaning judge.new ≡ J.meaning judge.old }
         ensures tried { Tried (J.meaning judge.old) parts told result }
     {
-        let finding = self.inspected(&mut Machine::new(), judge, parts, told);
-        let Finding::Nothing = finding else {
-            return Err(Wrong::Broken(finding));
-        };
+        self.inspected(&mut Machine::new(), judge, parts, told)?;
         let monotone = is_known(judge, parts, told);
-        match run(judge, parts, &mut self.memory, &mut self.left) {
-            Ended::Left(count, asked) => Ok(Shown {
-                left: Some(count),
-                asked,
-                monotone,
-            }),
-            Ended::Sound(asked) => Ok(Shown {
-                left: None,
-                asked,
-                monotone,
-            }),
-            Ended::TooMany | Ended::Unfit => Err(Wrong::TooMany),
-        }
+        let (left, asked) = match run(judge, parts, &mut self.memory, &mut self.left)? {
+            Ended::Left { count, asked } => (Some(count), asked),
+            Ended::Sound { asked } => (None, asked),
+        };
+        Ok(Shown {
+            left,
+            asked,
+            monotone,
+        })
     }
 }

@@ -2,7 +2,7 @@
 #![tactic(auto)]
 
 pub use desk::{Desk, Shown, Wrong};
-pub use numerals::digits;
+pub use numerals::{NoBase, digits};
 pub use random::Random;
 pub use tally::{Count, Row};
 

@@ -2,14 +2,14 @@
 ghost use Rattle.std.specs.Prelude.{◌≡◌};
 ghost use Rattle.rig.specs.Tally.{noted, one_more};
 
-#[derive(Clone, Copy)]
+#[derive(Clone, Copy, Debug, PartialEq, Eq)]
 pub struct Count {
     pub judges: u64,
     pub most: u64,
 }
 
 // All judges, and those that are monotone.
-#[derive(Clone, Copy)]
+#[derive(Clone, Copy, Debug, PartialEq, Eq)]
 pub struct Row {
     pub all: Count,
     pub monotone: Count,
@@ -47,13 +47,13 @@ impl Row {
     pub fn with(self, asked: u64, monotone: bool) -> Row
         ensures { result ≡ noted asked monotone self }
     {
-        let all = self.all.with(asked);
-        if monotone {
-            return Row {
-                all,
-                monotone: self.monotone.with(asked),
-            };
+        Row {
+            all: self.all.with(asked),
+            monotone: if monotone {
+                self.monotone.with(asked)
+            } else {
+                self.monotone
+            },
         }
-        Row { all, ..self }
     }
 }

@@ -4,14 +4,14 @@ use std::alloc::{AllocError, Global};
 
 // Draws a number for each subset: it fails with a chance of so many eighths, and of half of the others one can't tell. All together fail.
 pub(crate) fn random_numbers(random: &mut Random, numbers: &mut [u64], eighths: u64) {
-    for number in numbers.iter_mut() {
+    numbers.fill_with(|| {
         let drawn = random.draw();
-        *number = if drawn % 8 < eighths {
+        if drawn % 8 < eighths {
             1
         } else {
             drawn / 8 % 2 * 2
-        };
-    }
+        }
+    });
     if let Some(last) = numbers.last_mut() {
         *last = 1;
     }
@@ -25,27 +25,21 @@ pub(crate) struct Sizes {
     pub(crate) chance: u64,
 }
 
-fn random_set(heap: Global, random: &mut Random, sizes: Sizes) -> Result<Vec<u64>, AllocError> {
-    let mut set = Vec::new(heap);
-    for part in 0..sizes.parts {
-        if random.draw() % 16 < sizes.chance {
-            set.push(part)?;
-        }
+impl Sizes {
+    fn draw_one(self, heap: Global, random: &mut Random) -> Result<Vec<u64>, AllocError> {
+        (0..self.parts)
+            .filter(|_| random.draw() % 16 < self.chance)
+            .collect(heap)
     }
-    Ok(set)
-}
 
-// Draws sets, as lists in a row.
-pub(crate) fn random_sets(
-    heap: Global,
-    random: &mut Random,
-    sizes: Sizes,
-) -> Result<Vec<u64>, AllocError> {
-    let mut row = Vec::new(heap);
-    for _ in 0..sizes.sets {
-        let set = random_set(heap, random, sizes)?;
-        row.push(set.len() as u64)?;
-        row.extend_from_slice(set.as_slice())?;
+    // Draws sets, as lists in a row.
+    pub(crate) fn draw(self, heap: Global, random: &mut Random) -> Result<Vec<u64>, AllocError> {
+        let mut row = Vec::new(heap);
+        for _ in 0..self.sets {
+            let set = self.draw_one(heap, random)?;
+            row.push(set.len() as u64)?;
+            row.extend_from_slice(&set)?;
+        }
+        Ok(row)
     }
-    Ok(row)
 }

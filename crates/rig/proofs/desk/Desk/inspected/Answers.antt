@@ -1,9 +1,14 @@
-use Rattle.std.proofs.Common.{◌∙◌, arith}
-use Rattle.rig.proofs.Trying.{inspected}
+use Rattle.std.proofs.Common.{rules, length, ap}
+use Rattle.judges.proofs.Listed.{read_back}
 use Rattle.rig.proofs.desk.Desk.inspected.Goals as goal
 
-pub returns : goal.returns
-returns g c = record {
-  same = c.inspect.ensures.same ∙ c.record-recorded.ensures.same;
-  found = inspected _ _ _ _ _ _ _ _ _ _ _ c.record-recorded.ensures.same (omega arith) c.record-recorded.ensures.recorded c.inspect.ensures.first;
-}
+pub returns-clause-found : goal.returns-clause-found
+returns-clause-found g c =
+    let r = c.record-transcript.ensures.recorded in record {
+      exchanges = r.exchanges;
+      last = r.told;
+      out = r.out;
+      dialogue = r.dialogue;
+      stopped = search (rules, ap length r.spells, r.stopped);
+      found = search (rules, read_back, r.spells, r.end);
+    }
