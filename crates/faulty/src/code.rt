@@ -1,9 +1,9 @@
 // A subset by its number: part p counts 2^p.
-ghost use Rattle.std.specs.Prelude.{◌≡◌, ◌+◌, ◌-◌, ◌^◌, [], ◌∷◌, length, take, true, if◌then◌else◌, nat_lt, min};
+ghost use Rattle.std.specs.Prelude.{◌≡◌, ◌+◌, ◌-◌, ◌^◌, [], ◌∷◌, length, take, true, if◌then◌else◌, nat_lt, min, ◌<◌, ◌≤◌, Ok, count_ones};
 ghost use Rattle.subset.specs.Parts.{without};
 ghost use Rattle.subset.specs.Row.{half, members};
 ghost use Rattle.subset.specs.Says.{After, room};
-ghost use Rattle.reduce.specs.declared.Told.TheVariants.{Ask, Rest};
+ghost use Rattle.reduce.specs.declared.Told.TheVariants.{Ask, Rest, TooMany};
 ghost use Rattle.inspect.specs.Recorder.{Roomy};
 ghost use Rattle.faulty.specs.Telling.{Tells};
 
@@ -28,7 +28,9 @@ impl Code {
         }
     }
 
-    pub(crate) fn size(self) -> u32 {
+    pub(crate) fn size(self) -> u32
+        ensures { result ≡ count_ones self.0 }
+    {
         self.0.count_ones()
     }
 
@@ -90,7 +92,9 @@ pub(crate) fn begin_with_all<M: Copy, F: FnOnce(Code) -> M>(
     begun: F,
 ) -> Result<Told, Refusal>
     requires { F.IsAlwaysCallable begun }
-    ensures { Roomy result (length out.new) }
+    ensures room { Roomy result (length out.new) }
+    ensures many { 63 < count → (result ≡ Ok TooMany) × (machine.new ≡ machine.old) × (out.new ≡ out.old) }
+    ensures few { count ≤ 63 → F.post begun (record { 0 = 2 ^ count - 1 }) machine.new }
 {
     if count > MOST {
         return Ok(Told::TooMany);
