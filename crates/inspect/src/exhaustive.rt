@@ -36,7 +36,7 @@ impl Few {
 fn coded(code: u64, row: &mut [u64; 64]) -> &[u64]
     ensures { result.now ≡ coded code }
 {
-    let count = tell(&[code], row).unwrap_or(0);
+    let count = tell(&[code], row).unwrap();
     &row[..count as usize]
 }
 

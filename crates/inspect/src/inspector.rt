@@ -150,7 +150,7 @@ fn of_sound(exchanges: &[u64], parts: u64) -> Result<(), Finding>
     if lists(others).count() != 0 {
         return Err(Finding::AskedMore);
     }
-    if answer == 1 {
+    if fails(answer) {
         return Err(Finding::NotSound);
     }
     Ok(())
@@ -179,9 +179,8 @@ impl Case {
         ensures { result.now ≡ all_parts self.parts }
     {
         let mut words = [0; 64];
-        // 64 words have room for them, so nothing is refused.
-        let _ = fill(&mut words, self.parts);
-        let count = tell(&words, row).unwrap_or(0);
+        fill(&mut words, self.parts).unwrap();
+        let count = tell(&words, row).unwrap();
         &row[..count as usize]
     }
 

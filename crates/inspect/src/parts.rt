@@ -30,7 +30,7 @@ impl<'a> Subset<'a> {
     fn but<'b>(self, part: u64, row: &'b mut Row) -> &'b [u64]
         ensures { result.now ≡ without part self.entry.parts.now }
     {
-        let count = leave_out(self.parts, row, part).unwrap_or(0);
+        let count = leave_out(self.parts, row, part).unwrap();
         &row[..count as usize]
     }
 

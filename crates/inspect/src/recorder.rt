@@ -83,8 +83,8 @@ fn write_exchange(row: &mut [u64], answer: u64, question: &[u64]) -> Option<usiz
 }
 
 // Runs a reducer against a judge, with the exchanges in the row: up to its end, or so many questions, or as far as there is room.
-// Says what it told last, and how much of the row is used.
-fn exchange<R: Reducer, J: Judge>(
+// Says what it told last, and how much of the row is used; what it told of stands in the other row.
+pub fn exchange<R: Reducer, J: Judge>(
     reducer: &mut R,
     judge: &mut J,
     count: u64,
@@ -111,7 +111,7 @@ fn exchange<R: Reducer, J: Judge>(
     (told, used)
 }
 
-// Runs a reducer against a judge, and records it in the rows: up to its end, or so many questions, or as far as there is room.
+// The same as a transcript, which holds the rows: what was asked last of a run that was stopped isn't in it.
 pub fn record<'a, R: Reducer, J: Judge>(
     reducer: &mut R,
     judge: &mut J,
