@@ -1,5 +1,5 @@
 // A subset by its number: part p counts 2^p.
-ghost use Rattle.std.specs.Prelude.{◌≡◌, ◌+◌, ◌-◌, ◌^◌, [], ◌∷◌, length, take, true, if◌then◌else◌, nat_lt, min, ◌<◌, ◌≤◌, Ok, count_ones};
+ghost use Rattle.std.specs.Prelude.{◌≡◌, ◌+◌, ◌-◌, ◌^◌, [], ◌∷◌, length, take, true, if◌then◌else◌, nat_lt, min, ◌<◌, ◌≤◌, Ok, count_ones, bit_and};
 ghost use Rattle.subset.specs.Parts.{without};
 ghost use Rattle.subset.specs.Row.{half, members};
 ghost use Rattle.subset.specs.Says.{After, room};
@@ -42,7 +42,9 @@ impl Code {
     }
 
     // What is in it and not in another.
-    pub(crate) fn but(self, other: Code) -> Code {
+    pub(crate) fn but(self, other: Code) -> Code
+        ensures { result.0 ≡ bit_and self.0 (2 ^ 64 - 1 - other.0) }
+    {
         Code(self.0 & !other.0)
     }
 

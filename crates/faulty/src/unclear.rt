@@ -1,15 +1,12 @@
 // Takes "can't tell" for failing.
 ghost use Rattle.std.specs.Prelude.{◌≡◌, replicate};
 
+use bisect::Verdict;
 use inspect::{Machine, Reducer};
 use reduce::{Event, Refusal, Told};
 
-const UNCLEAR: u64 = 2;
-
-const FAILS: u64 = 1;
-
 // The reducer itself, which is told that it fails where one can't tell.
-#[derive(Clone, Copy)]
+#[derive(Clone, Copy, Debug, PartialEq)]
 pub struct UnclearFails {
     machine: Machine,
 }
@@ -29,7 +26,9 @@ impl Reducer for UnclearFails {
 
     fn react(&mut self, event: Event, out: &mut [u64]) -> Result<Told, Refusal> {
         let heard = match event {
-            Event::Said(UNCLEAR) => Event::Said(FAILS),
+            Event::Said(answer) if Verdict::try_from(answer) == Ok(Verdict::Unclear) => {
+                Event::Said(Verdict::Yes.into())
+            }
             _ => event,
         };
         self.machine.react(heard, out)
