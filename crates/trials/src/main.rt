@@ -103,75 +103,49 @@ impl<'a> Trials<'a> {
         Ok(())
     }
 
-    // Runs a machine that fails, and prints what the inspector finds.
+    // Runs a machine that fails against a judge of so many parts, and prints what the inspector finds.
     fn catch<R: Reducer + Drop, J: Judge + Drop>(
         &mut self,
         name: &str,
         mut reducer: R,
-        mut judge: J,
+        (says, mut judge): (&str, J),
         parts: u64,
     ) -> io::Result<()> {
         match self.desk.inspected(&mut reducer, &mut judge, parts, false) {
-            Ok(()) => println!(self.rt; "{name}: nothing"),
-            Err(finding) => println!(self.rt; "{name}: {finding}"),
+            Ok(()) => println!(self.rt; "{name}, {says} of {parts}: nothing"),
+            Err(finding) => println!(self.rt; "{name}, {says} of {parts}: {finding}"),
         }
     }
 
     fn faulty_machines(&mut self) -> io::Result<()> {
         println!(self.rt; "machines that fail")?;
-        let both = Sets { sets: &[2, 1, 4] };
-        let either = Sets {
-            sets: &[1, 0, 1, 5],
-        };
-        let shrinking = Table {
-            numbers: &[0, 0, 0, 0, 1, 1, 0, 1],
-        };
-        let chain = Chained {
-            needs: &[0, 0, 1],
-            judge: Sets { sets: &[1, 2] },
-        };
-        self.catch(
-            "lost count, fails with 1 and 4 of 6",
-            LostCount::new(),
-            both,
-            6,
-        )?;
-        self.catch(
-            "no half fails, fails with 1 and 4 of 6",
-            NoHalf::new(),
-            both,
-            6,
-        )?;
-        self.catch(
-            "tried once, fails 0 1 2 and 0 2 and 2 of 3",
-            TriesOnce::new(),
-            shrinking,
-            3,
-        )?;
-        self.catch(
-            "unclear fails, 2 needs 1 needs 0 of 3",
-            UnclearFails::new(),
-            chain,
-            3,
-        )?;
-        self.catch(
-            "asks again, fails with 1 and 4 of 6",
-            AsksAgain::new(),
-            both,
-            6,
-        )?;
-        self.catch(
-            "from both ends, fails with 0 or 5 of 6",
-            BothEnds::new(),
-            either,
-            6,
-        )?;
-        self.catch(
-            "tries all, fails with 1 and 4 of 12",
-            TriesAll::new(),
-            both,
-            12,
-        )
+        let both = ("fails with 1 and 4", Sets { sets: &[2, 1, 4] });
+        let either = (
+            "fails with 0 or 5",
+            Sets {
+                sets: &[1, 0, 1, 5],
+            },
+        );
+        let shrinking = (
+            "fails 0 1 2 and 0 2 and 2",
+            Table {
+                numbers: &[0, 0, 0, 0, 1, 1, 0, 1],
+            },
+        );
+        let chain = (
+            "2 needs 1 needs 0",
+            Chained {
+                needs: &[0, 0, 1],
+                judge: Sets { sets: &[1, 2] },
+            },
+        );
+        self.catch("lost count", LostCount::new(), both, 6)?;
+        self.catch("no half fails", NoHalf::new(), both, 6)?;
+        self.catch("tried once", TriesOnce::new(), shrinking, 3)?;
+        self.catch("unclear fails", UnclearFails::new(), chain, 3)?;
+        self.catch("asks again", AsksAgain::new(), both, 6)?;
+        self.catch("from both ends", BothEnds::new(), either, 6)?;
+        self.catch("tries all", TriesAll::new(), both, 12)
     }
 
     fn run(&mut self) -> anyhow::Result<()> {
