@@ -50,7 +50,8 @@ impl Range {
         self.hi - self.half()
     }
 
-    // After the answer about a beginning up to the middle: whether it fails.
+    // After the answer about a beginning up to the middle: whether it fails. No twin of the next: there the middle is
+    // rounded up, and the other end moves.
     fn after_beginning(self, failed: bool) -> Range
         ensures { result ≡ (if failed then (record { lo = self.lo; hi = middle self }) else (record { lo = min (middle self + 1) (2 ^ 64 - 1); hi = self.hi })) }
     {

@@ -11,6 +11,7 @@ use judges::Judge;
 use reduce::{Event, Refusal, Told, react};
 
 // A reducer to try. What it asks of, or leaves, stands at the beginning of the lent row.
+// Methods that answer for a machine say `room` again: how long the row is, an answer alone can't say.
 pub trait Reducer {
     // What it may do at an event: from where, where to, what it tells, and what then stands in the row.
     ghost does: { Self → Event → Self → Result Told Refusal → List ℕ → Type 0 };
@@ -21,7 +22,7 @@ pub trait Reducer {
 }
 
 impl<'a> End<'a> {
-    // By what was told last, and the row in which stands what is left.
+    // By what was told last, and the row in which stands what is left. No `From`: it asks that this has room there.
     fn by(told: Result<Told, Refusal>, out: &'a [u64]) -> End<'a>
         requires { Roomy told (length out.now) }
         ensures { ending result ≡ end_by told out.now }

@@ -6,6 +6,7 @@ use super::parts::all_in;
 use super::spelled::lists;
 
 // Fails what has all of one of some sets. The row has a length, then so many parts, again and again.
+// One row and no slice of slices: sets that are drawn, and transcripts, are written to lent memory as they come.
 #[derive(Clone, Copy, Debug, PartialEq, Eq)]
 pub struct Sets<'a> {
     pub sets: &'a [u64],

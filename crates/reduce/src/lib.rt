@@ -48,7 +48,7 @@ pub enum Event {
     Said(u64),
 }
 
-// What a step tells.
+// What a step tells. How many, and not the slice: the contract says all that the lent row holds afterwards.
 #[derive(Clone, Copy, Debug, PartialEq, Eq)]
 pub enum Told {
     // Ask of so many: they are in the lent row.

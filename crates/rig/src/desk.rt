@@ -4,6 +4,7 @@ ghost use Rattle.inspect.specs.Inspector.{Known};
 ghost use Rattle.rig.specs.Trial.{Inspected, Tried, complaint};
 ghost use Rattle.rig.specs.declared.desk.Wrong.TheVariants.{Broken, TooMany};
 
+use bisect::{LENGTH, MOST};
 use inspect::{Finding, Machine, Reducer, inspect, is_monotone, record};
 use judges::{Ended, Judge, RunError, run};
 use std::error::Error;
@@ -16,8 +17,8 @@ const LIMIT: u64 = 5000;
 #[derive(Drop)]
 pub struct Desk {
     transcript: [u64; 65536],
-    left: [u64; 4096],
-    memory: [u64; 72],
+    left: [u64; MOST as usize],
+    memory: [u64; LENGTH],
 }
 
 // What a trial of the reducer shows.
@@ -61,7 +62,8 @@ impl From<Finding> for Wrong {
     }
 }
 
-// Whether failing is known to be monotone: one was told so, or it was tried.
+// Whether failing is known to be monotone: one was told so, or it was tried. The inspector has the same, but promises
+// what its own definition says, and here it is what that means.
 fn is_known<J: Judge>(judge: &mut J, parts: u64, told: bool) -> bool
     ensures same { J.meaning judge.new ≡ J.meaning judge.old }
     ensures known { Decides result (Known told parts (J.meaning judge.old)) }
@@ -86,8 +88,8 @@ impl Desk {
     {
         Desk {
             transcript: [0; 65536],
-            left: [0; 4096],
-            memory: [0; 72],
+            left: [0; MOST as usize],
+            memory: [0; LENGTH],
         }
     }
 

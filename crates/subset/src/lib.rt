@@ -145,6 +145,7 @@ fn tell_word(mut word: u64, base: u64, out: &mut [u64], told: usize) -> usize
 }
 
 // Writes the members, rising, to the beginning of the lent row, if they have room there, and says how many they are.
+// A number and no slice: of a row that is lent on, no contract says what it holds afterwards.
 pub fn tell(words: &[u64], out: &mut [u64]) -> Option<u64>
     ensures { Told (room words.now out.old) (members words.now) out.old result out.new }
 {
@@ -278,7 +279,7 @@ pub fn is_within(words: &[u64], others: &[u64]) -> bool
         .all(|(i, word)| *word & !word_at(others, i) == 0)
 }
 
-// Whether both have the same members.
+// Whether both have the same members. No derived `==`: rows of different lengths may have the same.
 pub fn equal(words: &[u64], others: &[u64]) -> bool
     ensures { result ≡ alike (members words.now) (members others.now) }
 {
