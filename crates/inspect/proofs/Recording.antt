@@ -14,7 +14,7 @@ use Rattle.reduce.specs.declared.Refusal.TheVariants.{Unfit}
 use Rattle.reduce.specs.declared.Told.{Told}
 use Rattle.reduce.specs.declared.Told.TheVariants.{Ask, Rest, Sound, TooMany}
 use Rattle.judges.specs.Spelled.{spelled}
-use Rattle.inspect.specs.Recorder.{Roomy, WriteSays, Dialogue, Stopped, Exchanged}
+use Rattle.inspect.specs.Recorder.{Roomy, WriteSays, Dialogue, Stopped, RecordSays}
 use Rattle.judges.proofs.Shown.{shown}
 
 -- ---- what a step tells of stands in the row
@@ -132,7 +132,7 @@ module _ {S : Type 0} (does : S → Event → S → Result Told Refusal → List
   going_full asked used v limit t q r row row₁ out asks on (same, full) = (subst (λ (x : List ℕ). Going asked used t r x out) (sym same) on, rw asks (inr (rw same full)))
 
   pub going_ends : (o : S) (n asked used limit : ℕ) (t : S) (r : Result Told Refusal) (row out : List ℕ) → does o (Parts n) s first begun → Going asked used t r row out → asked ≤ limit
-      → Stopped r asked limit used (length row) → Exchanged does f o n limit r used t row out
+      → Stopped r asked limit used (length row) → RecordSays does f o n limit r used t row out
   going_ends o n asked used limit t r row out d g few stop = record {
     exchanges = g.exchanges;
     dialogue = begun_so does f Here (does o (Parts n)) (reverse g.exchanges) t r out (λ u q x (i, j, k). here u q x i j k) g.dialogue;

@@ -64,8 +64,8 @@ Stopped (Ok told.Sound) asked limit used room = Unit {0}
 Stopped (Ok told.TooMany) asked limit used room = Unit {0}
 Stopped (Err e) asked limit used room = Unit {0}
 
--- what was exchanged, and stands in the row, is a dialogue, up to its end or where it was stopped
-pub record Exchanged {S : Type 0} (does : S → Event → S → Result Told Refusal → List ℕ → Type 0) (f : Judge) (s : S) (n limit : ℕ) (told : Result Told Refusal) (used : ℕ) (t : S) (row out : List ℕ) : Type 0 where
+-- WHAT IS RECORDED in the row is a dialogue, up to its end or where it was stopped; what was told last stands in the other row
+pub record RecordSays {S : Type 0} (does : S → Event → S → Result Told Refusal → List ℕ → Type 0) (f : Judge) (s : S) (n limit : ℕ) (told : Result Told Refusal) (used : ℕ) (t : S) (row out : List ℕ) : Type 0 where
   pub exchanges : List (List ℕ)
   pub dialogue : Dialogue does f (does s (Parts n)) (reverse exchanges) t told out
   pub spells : take used row ≡ spelled exchanges
@@ -74,8 +74,8 @@ pub record Exchanged {S : Type 0} (does : S → Event → S → Result Told Refu
   pub few : length exchanges ≤ limit
   pub stopped : Stopped told (length exchanges) limit used (length row)
 
--- WHAT IS RECORDED in rows of so many numbers is a dialogue, up to its end or where it was stopped
-pub record RecordSays {S : Type 0} (does : S → Event → S → Result Told Refusal → List ℕ → Type 0) (f : Judge) (s : S) (n limit room wide : ℕ) (row : List ℕ) (e : Ending) (t : S) : Type 0 where
+-- and the same of a transcript that holds rows of so many numbers
+pub record TranscriptSays {S : Type 0} (does : S → Event → S → Result Told Refusal → List ℕ → Type 0) (f : Judge) (s : S) (n limit room wide : ℕ) (row : List ℕ) (e : Ending) (t : S) : Type 0 where
   pub exchanges : List (List ℕ)
   pub told : Result Told Refusal
   pub out : List ℕ

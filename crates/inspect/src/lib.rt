@@ -3,7 +3,7 @@
 
 pub use exhaustive::is_monotone;
 pub use inspector::{End, Finding, Transcript, inspect};
-pub use recorder::{Machine, Reducer, exchange, record, recordings_stand};
+pub use recorder::{Machine, Recorded, Reducer, record, recordings_stand, transcribe};
 
 mod exhaustive;
 mod inspector;

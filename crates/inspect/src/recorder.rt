@@ -4,7 +4,7 @@ ghost use Rattle.reduce.specs.declared.Event.{Event};
 ghost use Rattle.reduce.specs.declared.Refusal.{Refusal};
 ghost use Rattle.reduce.specs.declared.Told.{Told};
 ghost use Rattle.inspect.specs.Inspector.{ending};
-ghost use Rattle.inspect.specs.Recorder.{Asked, Does, Exchanged, RecordSays, ReducerKept, Roomy, WriteSays, end_by};
+ghost use Rattle.inspect.specs.Recorder.{Asked, Does, RecordSays, TranscriptSays, ReducerKept, Roomy, WriteSays, end_by};
 
 use super::inspector::{End, Transcript};
 use judges::Judge;
@@ -58,6 +58,15 @@ impl Reducer for Machine {
     }
 }
 
+// What was recorded.
+#[derive(Clone, Copy, Debug, PartialEq, Eq)]
+pub struct Recorded {
+    // What the reducer told last, or why it refused.
+    pub told: Result<Told, Refusal>,
+    // So much of the row has the exchanges.
+    pub used: usize,
+}
+
 // The question in the row, where it was told to ask one.
 fn asked(told: Result<Told, Refusal>, out: &[u64]) -> Option<&[u64]>
     requires { Roomy told (length out.now) }
@@ -84,36 +93,36 @@ fn write_exchange(row: &mut [u64], answer: u64, question: &[u64]) -> Option<usiz
 }
 
 // Runs a reducer against a judge, with the exchanges in the row: up to its end, or so many questions, or as far as there is room.
-// Says what it told last, and how much of the row is used; what it told of stands in the other row.
-pub fn exchange<R: Reducer, J: Judge>(
+// What it told of last stands in the other row.
+pub fn record<R: Reducer, J: Judge>(
     reducer: &mut R,
     judge: &mut J,
     count: u64,
     limit: u64,
     row: &mut [u64],
     out: &mut [u64],
-) -> (Result<Told, Refusal>, usize)
+) -> Recorded
     ensures same { J.meaning judge.new ≡ J.meaning judge.old }
-    ensures exchanged { Exchanged R.does (J.meaning judge.old) reducer.old count limit result.0 result.1 reducer.new row.new out.new }
+    ensures recorded { RecordSays R.does (J.meaning judge.old) reducer.old count limit result.told result.used reducer.new row.new out.new }
 {
     let mut told = reducer.react(Event::Parts(count), out);
     let mut used = 0;
     for _asked in 0..limit {
         let Some(question) = asked(told, out) else {
-            return (told, used);
+            return Recorded { told, used };
         };
         let answer = judge.says(question);
         let Some(length) = write_exchange(&mut row[used..], answer, question) else {
-            return (told, used);
+            return Recorded { told, used };
         };
         used += length;
         told = reducer.react(Event::Said(answer), out);
     }
-    (told, used)
+    Recorded { told, used }
 }
 
 // The same as a transcript, which holds the rows: what was asked last of a run that was stopped isn't in it.
-pub fn record<'a, R: Reducer, J: Judge>(
+pub fn transcribe<'a, R: Reducer, J: Judge>(
     reducer: &mut R,
     judge: &mut J,
     count: u64,
@@ -122,12 +131,12 @@ pub fn record<'a, R: Reducer, J: Judge>(
     out: &'a mut [u64],
 ) -> Transcript<'a>
     ensures same { J.meaning judge.new ≡ J.meaning judge.old }
-    ensures recorded { RecordSays R.does (J.meaning judge.old) reducer.old count limit (length row.old) (length out.old) result.exchanges.now (ending result.end) reducer.new }
+    ensures transcribed { TranscriptSays R.does (J.meaning judge.old) reducer.old count limit (length row.old) (length out.old) result.exchanges.now (ending result.end) reducer.new }
 {
-    let (told, used) = exchange(reducer, judge, count, limit, row, out);
+    let recorded = record(reducer, judge, count, limit, row, out);
     Transcript {
-        exchanges: &row[..used],
-        end: End::by(told, out),
+        exchanges: &row[..recorded.used],
+        end: End::by(recorded.told, out),
     }
 }
 

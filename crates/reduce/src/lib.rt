@@ -19,6 +19,7 @@ use bisect::{LENGTH, MOST, Search};
 type Memory = [u64; LENGTH];
 
 // The beginning of the lent row, with room for all parts.
+// Memory and row are two parameters: how long an array behind a `&mut` is, the check knows at a parameter and not in a field.
 type Row = [u64; MOST as usize];
 
 // Where the memory holds what; a pass stands in 2, 3, 5, 6 and 7, the words of the subset from 8 on.

@@ -5,7 +5,7 @@ ghost use Rattle.rig.specs.Trial.{Inspected, Tried, complaint};
 ghost use Rattle.rig.specs.declared.desk.Wrong.TheVariants.{Broken, TooMany};
 
 use bisect::{LENGTH, MOST};
-use inspect::{Finding, Machine, Reducer, inspect, is_monotone, record};
+use inspect::{Finding, Machine, Reducer, inspect, is_monotone, transcribe};
 use judges::{Ended, Judge, RunError, run};
 use std::error::Error;
 use std::fmt;
@@ -104,7 +104,7 @@ impl Desk {
         ensures same { J.meaning judge.new ≡ J.meaning judge.old }
         ensures found { Inspected R.does (J.meaning judge.old) reducer.old parts told result reducer.new }
     {
-        let transcript = record(
+        let transcript = transcribe(
             reducer,
             judge,
             parts,

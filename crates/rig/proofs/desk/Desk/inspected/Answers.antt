@@ -4,7 +4,7 @@ use Rattle.rig.proofs.desk.Desk.inspected.Goals as goal
 
 pub returns-clause-found : goal.returns-clause-found
 returns-clause-found g c =
-    let r = c.record-transcript.ensures.recorded in record {
+    let r = c.transcribe-transcript.ensures.transcribed in record {
       exchanges = r.exchanges;
       last = r.told;
       out = r.out;

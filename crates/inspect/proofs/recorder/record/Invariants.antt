@@ -1,6 +1,6 @@
 use Rattle.std.proofs.Common.{◌≡◌}
 use Rattle.inspect.proofs.Recording.{Going}
-use Rattle.inspect.proofs.recorder.exchange.Given as goal
+use Rattle.inspect.proofs.recorder.record.Given as goal
 
 abbrev pub invariant-loop-asked : goal.invariant-loop-asked
 invariant-loop-asked g l =
