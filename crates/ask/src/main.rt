@@ -4,6 +4,7 @@
 ghost use Rattle.std.specs.Prelude.{◌≡◌, take, IfOk};
 
 use anyhow::{Context, anyhow, bail, ensure};
+use bisect::{LENGTH, MOST};
 use dialog::lines::{Left, Question};
 use dialog::reading::{self, SizeError};
 use reduce::{Event, Told, react};
@@ -23,8 +24,8 @@ type Lines = io::Split<BufReader<Stdin>, Global>;
 // The machine, with the memory and the row that are lent to it.
 #[derive(Drop)]
 struct Machine {
-    memory: [u64; 72],
-    out: [u64; 4096],
+    memory: [u64; LENGTH],
+    out: [u64; MOST as usize],
 }
 
 impl Machine {
@@ -113,8 +114,8 @@ fn run(rt: &HostRuntime) -> anyhow::Result<ExitCode> {
     let mut lines = BufReader::new(heap, rt.stdin())?.split(heap, b'\n');
     let given = size_text(rt, &mut lines)?;
     let mut machine = Machine {
-        memory: [0; 72],
-        out: [0; 4096],
+        memory: [0; LENGTH],
+        out: [0; MOST as usize],
     };
     let told = match reading::size_in(given.as_slice()) {
         Ok(count) => machine.react(Event::Parts(count))?,

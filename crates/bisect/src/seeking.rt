@@ -66,7 +66,7 @@ impl Search {
         }
     }
 
-    // What memory holds.
+    // What memory holds. A name and no `TryFrom`: `write` is its pair.
     pub fn read(memory: &[u64]) -> Result<Search, WrongLength>
         ensures { result ≡ ok_or (given (whole memory.now) (sought memory.now)) (record {}) }
     {
@@ -99,7 +99,7 @@ impl Search {
     }
 
     // Whether something is open in the row of so many members, of at most so many parts.
-    // Two numbers and no type of both: callers have each by itself, and one asks only with MOST.
+    // Two numbers, no type of both: `cut` and `hear` ask with MOST alone.
     pub fn is_placed(self, count: u64, most: u64) -> bool
         ensures { result ≡ placed self count most }
     {

@@ -5,7 +5,7 @@ use super::code::{Code, begin_with_all};
 use inspect::Reducer;
 use reduce::{Event, Refusal, Told};
 
-#[derive(Clone, Copy, Debug, PartialEq)]
+#[derive(Clone, Copy, Debug, PartialEq, Eq)]
 pub struct AsksAgain {
     all: Code,
 }

@@ -8,7 +8,7 @@ use inspect::Reducer;
 use reduce::{Event, Refusal, Told};
 
 // Asks of every subset, by its number, and tells the first of those that fail with the fewest parts.
-#[derive(Clone, Copy, Debug, PartialEq)]
+#[derive(Clone, Copy, Debug, PartialEq, Eq)]
 pub struct TriesAll {
     all: Code,
     // The best so far.

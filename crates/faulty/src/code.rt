@@ -13,11 +13,11 @@ use subset::{keep_first_half, take_out, tell};
 // The most parts that a number has room for here.
 const MOST: u64 = 63;
 
-#[derive(Clone, Copy, Debug, PartialEq, PartialOrd)]
+#[derive(Clone, Copy, Debug, PartialEq, Eq, PartialOrd)]
 pub(crate) struct Code(pub(crate) u64);
 
 impl Code {
-    // All of so many parts, and all of 64 where there are more.
+    // All of so many parts, and all of 64 where there are more. `subset` has it for itself, and a public one is no plainer.
     pub(crate) fn all_of(parts: u64) -> Code
         ensures { result.0 ≡ (if nat_lt parts 64 then 2 ^ parts - 1 else 2 ^ 64 - 1) }
     {

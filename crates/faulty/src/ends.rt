@@ -9,7 +9,7 @@ use inspect::Reducer;
 use reduce::{Event, Refusal, Told};
 
 // What lies from `lo` to `hi` is looked for by halves.
-#[derive(Clone, Copy, Debug, PartialEq)]
+#[derive(Clone, Copy, Debug, PartialEq, Eq)]
 struct Range {
     lo: u64,
     hi: u64,
@@ -50,8 +50,8 @@ impl Range {
         self.hi - self.half()
     }
 
-    // After the answer about a beginning up to the middle: whether it fails. No twin of the next: there the middle is
-    // rounded up, and the other end moves.
+    // After the answer about a beginning up to the middle: whether it fails.
+    // No twin of the next: there the middle is rounded up, and the other end moves.
     fn after_beginning(self, failed: bool) -> Range
         ensures { result ≡ (if failed then (record { lo = self.lo; hi = middle self }) else (record { lo = min (middle self + 1) (2 ^ 64 - 1); hi = self.hi })) }
     {
@@ -85,7 +85,7 @@ impl Range {
 }
 
 // What it looks for.
-#[derive(Clone, Copy, Debug, PartialEq)]
+#[derive(Clone, Copy, Debug, PartialEq, Eq)]
 enum Phase {
     // Whether all together fail.
     All,
@@ -97,7 +97,7 @@ enum Phase {
 
 // Finds the shortest beginning that fails and the shortest end that fails, each by halves and on its own, and tells what they have in common:
 // if failing grows and one set is to blame, that set lies in both.
-#[derive(Clone, Copy, Debug, PartialEq)]
+#[derive(Clone, Copy, Debug, PartialEq, Eq)]
 pub struct BothEnds {
     parts: u64,
     phase: Phase,

@@ -8,14 +8,14 @@ use inspect::Reducer;
 use reduce::{Event, Refusal, Told};
 
 // What was asked of last.
-#[derive(Clone, Copy, Debug, PartialEq)]
+#[derive(Clone, Copy, Debug, PartialEq, Eq)]
 enum Asked {
     All,
     First(Code),
     Second(Code),
 }
 
-#[derive(Clone, Copy, Debug, PartialEq)]
+#[derive(Clone, Copy, Debug, PartialEq, Eq)]
 pub struct NoHalf {
     // What is known to fail.
     held: Code,

@@ -8,7 +8,7 @@ use inspect::Reducer;
 use reduce::{Event, Refusal, Told};
 
 // Tries each part out once, though something else can go after one went.
-#[derive(Clone, Copy, Debug, PartialEq)]
+#[derive(Clone, Copy, Debug, PartialEq, Eq)]
 pub struct TriesOnce {
     parts: u64,
     // What is known to fail.
@@ -73,7 +73,7 @@ impl Reducer for TriesOnce {
 }
 
 // Loses count after so many questions, and tells what is left then.
-#[derive(Clone, Copy, Debug, PartialEq)]
+#[derive(Clone, Copy, Debug, PartialEq, Eq)]
 pub struct LostCount {
     asked: u64,
     trial: TriesOnce,

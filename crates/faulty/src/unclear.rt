@@ -6,7 +6,7 @@ use inspect::{Machine, Reducer};
 use reduce::{Event, Refusal, Told};
 
 // The reducer itself, which is told that it fails where one can't tell.
-#[derive(Clone, Copy, Debug, PartialEq)]
+#[derive(Clone, Copy, Debug, PartialEq, Eq)]
 pub struct UnclearFails {
     machine: Machine,
 }

@@ -66,6 +66,7 @@ fn of_all<J: Judge, F: Fn(&mut J, u64) -> bool>(judge: &mut J, few: Few, holds: 
     ensures same { J.meaning judge.new ≡ J.meaning judge.old }
     ensures tried { Tried (λ c b. (j : _) × (k : _) × (J.meaning j.now ≡ J.meaning judge.old) × F.post holds j c b k) few.parts result }
 {
+    // No `all`: what holds of a judge that its closure asks takes an invariant over captures, which is no plainer.
     for code in 0..few.subsets() {
         if !holds(judge, code) {
             return false;

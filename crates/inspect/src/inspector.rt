@@ -110,7 +110,7 @@ fn heard_rightly<J: Judge>(judge: &mut J, exchanges: &[u64]) -> bool
     ensures same { J.meaning judge.new ≡ J.meaning judge.old }
     ensures value { result ≡ list_all (rightly (J.meaning judge.old)) (lists_of exchanges.now) }
 {
-    // No `all`: of a judge that a chain's closure asked, a proof knows nothing afterwards.
+    // No `all`: what holds of a judge that its closure asks takes an invariant over captures, which is no plainer.
     for exchange in lists(exchanges) {
         let (answer, question) = parted(exchange);
         if judge.says(question) != answer {
@@ -261,7 +261,7 @@ impl Case {
     }
 }
 
-// The first promise that is broken.
+// The first promise that is broken. Apart from `inspect`, which shows `exact` from this value.
 fn first_broken<J: Judge>(
     judge: &mut J,
     parts: u64,

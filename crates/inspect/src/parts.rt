@@ -47,7 +47,7 @@ impl<'a> Subset<'a> {
         ensures same { J.meaning judge.new ≡ J.meaning judge.old }
         ensures value { result ≡ all_needed (J.meaning judge.old) self.entry.parts.now }
     {
-        // No `all`: of a judge that a chain's closure asked, a proof knows nothing afterwards.
+        // No `all`: what holds of a judge that its closure asks takes an invariant over captures, which is no plainer.
         for p in self.parts {
             if self.can_spare(judge, *p) {
                 return false;

@@ -7,6 +7,7 @@ ghost use Rattle.inspect.specs.Inspector.{ending};
 ghost use Rattle.inspect.specs.Recorder.{Asked, Does, RecordSays, TranscriptSays, ReducerKept, Roomy, WriteSays, end_by};
 
 use super::inspector::{End, Transcript};
+use bisect::LENGTH;
 use judges::Judge;
 use reduce::{Event, Refusal, Told, react};
 
@@ -39,14 +40,16 @@ impl<'a> End<'a> {
 // The reducer itself, with a memory of its own.
 #[derive(Clone, Copy, Debug, PartialEq, Eq)]
 pub struct Machine {
-    memory: [u64; 72],
+    memory: [u64; LENGTH],
 }
 
 impl Machine {
     pub fn new() -> Machine
         ensures { result.memory ≡ replicate 72 0 }
     {
-        Machine { memory: [0; 72] }
+        Machine {
+            memory: [0; LENGTH],
+        }
     }
 }
 

@@ -3,6 +3,7 @@ ghost use Rattle.std.specs.Prelude.{◌≡◌};
 ghost use Rattle.judges.specs.Chained.{all_met, chained, need_of};
 
 use super::Judge;
+use bisect::Verdict;
 
 // Can't tell of what lacks a part that one of its parts needs; of all else it says what another judge says.
 // Part p needs the part `needs[p]`, and nothing if that is p or lies past the end.
@@ -33,7 +34,7 @@ impl<'a, J: Judge> Judge for Chained<'a, J> {
 
     fn says(&mut self, subset: &[u64]) -> u64 {
         if !all_met(self.needs, subset) {
-            return 2;
+            return Verdict::Unclear.into();
         }
         self.judge.says(subset)
     }

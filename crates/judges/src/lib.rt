@@ -27,7 +27,7 @@ mod table;
 
 // A judge means a function from subsets to numbers, and says what it means; saying it does not change what it means.
 // Numbers and not a verdict: the reducer takes any number for an answer, and is right for every such function.
-// Who holds a judge by `&mut` promises `same` again: no law speaks of what a call leaves, and no type in a signature can carry a meaning that the caller picks.
+// Who holds a judge by `&mut` says `same` again: no law speaks of what a call leaves, nor can a type carry the meaning.
 pub trait Judge {
     ghost meaning: { Self → List ℕ → ℕ };
 

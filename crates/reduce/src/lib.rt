@@ -19,7 +19,7 @@ use bisect::{LENGTH, MOST, Search};
 type Memory = [u64; LENGTH];
 
 // The beginning of the lent row, with room for all parts.
-// Memory and row are two parameters: how long an array behind a `&mut` is, the check knows at a parameter and not in a field.
+// No struct of memory and row: of a field, the check doesn't know how long an array behind a `&mut` is.
 type Row = [u64; MOST as usize];
 
 // Where the memory holds what; a pass stands in 2, 3, 5, 6 and 7, the words of the subset from 8 on.
@@ -108,7 +108,7 @@ fn nowhere() -> Search
 }
 
 impl Stage {
-    // Refused where no run leaves such numbers beside the words.
+    // Refused where no run leaves such numbers beside the words. A name and no `TryFrom`: `write` is its pair.
     #[tactic(auto, unfolding(crate::specs::Own::stage))]
     fn read(memory: &Memory) -> Result<Stage, Refusal>
         ensures { result ≡ stage memory.now }

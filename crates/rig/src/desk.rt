@@ -13,10 +13,13 @@ use std::fmt;
 // So many questions are asked at most before a machine is stopped.
 const LIMIT: u64 = 5000;
 
+// So many numbers a transcript has at most.
+const ROOM: usize = 65536;
+
 // What a trial works on: the transcript, what is left, and a memory for the run that is counted.
 #[derive(Drop)]
 pub struct Desk {
-    transcript: [u64; 65536],
+    transcript: [u64; ROOM],
     left: [u64; MOST as usize],
     memory: [u64; LENGTH],
 }
@@ -62,8 +65,8 @@ impl From<Finding> for Wrong {
     }
 }
 
-// Whether failing is known to be monotone: one was told so, or it was tried. The inspector has the same, but promises
-// what its own definition says, and here it is what that means.
+// Whether failing is known to be monotone: one was told so, or it was tried.
+// The inspector has the same for itself: one public function would promise both and be no plainer.
 fn is_known<J: Judge>(judge: &mut J, parts: u64, told: bool) -> bool
     ensures same { J.meaning judge.new ≡ J.meaning judge.old }
     ensures known { Decides result (Known told parts (J.meaning judge.old)) }
@@ -87,7 +90,7 @@ impl Desk {
         ensures { result.memory ≡ replicate 72 0 }
     {
         Desk {
-            transcript: [0; 65536],
+            transcript: [0; ROOM],
             left: [0; MOST as usize],
             memory: [0; LENGTH],
         }

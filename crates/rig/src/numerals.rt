@@ -23,6 +23,7 @@ fn fill(code: u64, base: u64, row: &mut [u64])
     requires { 0 < base }
     ensures { Digits base code row.new }
 {
+    // No `fill_with`: of what a closure changes as it goes, a proof knows nothing.
     let mut rest = code;
     for digit in row.iter_mut() {
         *digit = rest % base;

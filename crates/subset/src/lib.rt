@@ -174,6 +174,7 @@ pub fn next_from(words: &[u64], part: u64) -> Result<Option<u64>, RowError>
     ensures { result ≡ found (few words.now) (filter (leb part) (members words.now)) }
 {
     short(words)?;
+    // No `find_map`: that it finds the least member stayed open there.
     for (i, word) in words.iter().enumerate() {
         let base = BITS * i as u64;
         let left = word & !low(part.saturating_sub(base));

@@ -2,7 +2,7 @@
 use rig::Random;
 use std::alloc::{AllocError, Global};
 
-// Draws a number for each subset: it fails with a chance of so many eighths, and of half of the others one can't tell. All together fail.
+// Draws a number for each subset: 1, it fails, with a chance of so many eighths; and for half of the others 2, one can't tell. All together fail.
 pub(crate) fn random_numbers(random: &mut Random, numbers: &mut [u64], eighths: u64) {
     numbers.fill_with(|| {
         let drawn = random.draw();
