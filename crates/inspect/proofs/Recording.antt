@@ -1,5 +1,5 @@
 -- What a recording rests on.
-use Rattle.std.proofs.Common.{◌≡◌, ℕ, suc, ◌+◌, ◌-◌, ◌<◌, ◌≤◌, Bool, true, false, List, [], ◌∷◌, ◌++◌, reverse, length, take, drop, set, Some, None, Option, Ok, Err, Result, sym, refl, ap, ◌∙◌, subst, inl, inr, append_assoc, append-nil, arith, length-append, take_at}
+use Rattle.std.proofs.Common.{◌≡◌, ℕ, suc, ◌+◌, ◌-◌, ◌<◌, ◌≤◌, Bool, true, false, List, [], ◌∷◌, ◌++◌, reverse, length, take, drop, Some, None, Option, Ok, Err, Result, sym, refl, ap, ◌∙◌, subst, inl, inr, append_assoc, append-nil, arith, length-append, take_at}
 use borrow.Rule.Slice.PartMut.{put_mid}
 use Rattle.std.proofs.lemmas.List.{take_all, drop_all, drop-drop, length-take-le, length-drop, reverse-append, take-append-drop}
 use Rattle.subset.specs.Says.{laid}
@@ -37,15 +37,7 @@ pub react_roomy : (b : Bool) (m : List ℕ) (ev : Event) (out : List ℕ) (r : R
 react_roomy true m ev out r m₁ row h = heard_roomy (fault_of m ev) m ev out r m₁ row h
 react_roomy false m ev out r m₁ row h = refused_roomy Unfit r row h.0
 
--- ---- an exchange in the row
-pub exchange_laid : (row : List ℕ) (a k x : ℕ) (q ys : List ℕ) → 2 + length q ≤ length row → ys ≡ q → k ≡ length q → x ≡ suc (length q)
-    → put_mid 2 k (set (set row 0 x) 1 a) ys ≡ suc (length q) ∷ a ∷ (q ++ drop (2 + length q) row)
-exchange_laid [] a k x q ys h e d c = absurd (omega arith)
-exchange_laid (r ∷ []) a k x q ys h e d c = absurd (omega arith)
-exchange_laid (r ∷ s ∷ row) a k x q ys h e d c =
-    let two : 2 + length q ≡ suc (suc (length q)) = omega arith in rw (two, e, d, c) refl
-
--- written behind so many numbers of a row, it is laid there
+-- ---- an exchange written behind so many numbers of a row is laid there
 module _ (row rest₁ : List ℕ) (i a : ℕ) (q : List ℕ) (low : i ≤ length row) where
   rest_is : take (length row - i) (drop i row) ≡ drop i row
   rest_is = take_all (length row - i) (drop i row) (omega (arith, length-drop i row))

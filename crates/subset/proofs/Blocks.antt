@@ -170,9 +170,6 @@ pub record Joining (xs ys ws : List ℕ) (i : ℕ) : Type 0 where
   pub done : (k : ℕ) → k < i → get_or ws k 0 ≡ bit_or (get_or xs k 0) (get_or ys k 0)
   pub rest : (k : ℕ) → i ≤ k → get_or ws k 0 ≡ get_or xs k 0
 
-pub joining_none : (xs ys : List ℕ) → Joining xs ys xs 0
-joining_none xs ys = record { small = λ k l. absurd (omega arith); done = λ k l. absurd (omega arith); rest = λ k l. refl }
-
 pub joining_more : (xs ys ws : List ℕ) (i : ℕ) → i < length ws → get_or ws i 0 < 2 ^ 64 → get_or ys i 0 < 2 ^ 64 → Joining xs ys ws i
     → Joining xs ys (set ws i (bit_or (get_or ws i 0) (get_or ys i 0))) (i + 1)
 joining_more xs ys ws i h sw sy t =

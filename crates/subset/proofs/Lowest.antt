@@ -1,5 +1,5 @@
 -- The lowest set bit of a word, and what is left without it.
-use Rattle.std.proofs.Common.{◌≡◌, ℕ, zero, suc, ◌+◌, ◌-◌, ◌/◌, ◌%◌, ◌^◌, ◌<◌, ◌≤◌, Bool, true, false, not, ◌&&◌, ◌||◌, eqb, ◌⊎◌, List, [], ◌∷◌, ◌++◌, length, take, drop, set, sym, refl, ap, ◌∙◌, subst, ap₂, inl, inr, append_assoc, add-one, arith, take-append-drop, length-drop, drop-drop, take-suc-set, take_at, drop-set-lt}
+use Rattle.std.proofs.Common.{◌≡◌, ℕ, zero, suc, ◌+◌, ◌-◌, ◌/◌, ◌%◌, ◌^◌, ◌<◌, ◌≤◌, Bool, true, false, not, ◌&&◌, ◌||◌, eqb, ◌⊎◌, List, [], ◌∷◌, ◌++◌, length, take, drop, set, sym, refl, ap, ◌∙◌, subst, ap₂, inl, inr, append_assoc, add-one, arith, length-drop, drop-drop, take-suc-set, take_at, drop-set-lt}
 use mathlib.Core.Bool.{and-true, and-false}
 use lib.Dec.{eqb-suc-suc, eqb-suc-zero}
 use lib.Bits.{bit_and}
@@ -155,9 +155,6 @@ laid_more out n v ys h =
     ap₂ (λ xs zs. xs ++ (ys ++ zs)) (ap (λ k. take k (set out n v)) (add-one n) ∙ take-suc-set out n v h)
     (drop-set-lt (n + 1 + length ys) out n v (omega arith) ∙ ap (λ k. drop k out) (let z : n + 1 + length ys ≡ n + suc (length ys) = omega arith in z))
     ∙ append_assoc (take n out) (v ∷ []) (ys ++ drop (n + suc (length ys)) out)
-
-pub laid_none : (out : List ℕ) (n : ℕ) → laid out n [] ≡ out
-laid_none out n = ap (λ k. take n out ++ drop k out) (let z : n + 0 ≡ n = omega arith in z) ∙ take-append-drop n out
 
 -- ys behind the n numbers xs that were written before
 pub laid_behind : (out₀ xs ys : List ℕ) (n : ℕ) → n ≡ length xs → laid (xs ++ drop n out₀) n ys ≡ (xs ++ ys) ++ drop (n + length ys) out₀

@@ -1,5 +1,4 @@
-use Rattle.std.proofs.Common.{◌≡◌, [], ◌∷◌, length, refl, arith}
-use Rattle.subset.specs.Row.{members}
+use Rattle.std.proofs.Common.{[], ◌∷◌, refl, arith}
 use Rattle.subset.proofs.Words.{members_le}
 use Rattle.judges.proofs.Shown.{told}
 use Rattle.inspect.proofs.exhaustive.coded.Goals as goal
@@ -7,8 +6,3 @@ use Rattle.inspect.proofs.exhaustive.coded.Goals as goal
 pub unwrap-count-requires : goal.unwrap-count-requires
 unwrap-count-requires c =
     let t = told (c.args.code ∷ []) _ _ _ (omega arith) (omega (arith, members_le (c.args.code ∷ []), c.told-row)) c.tell.ensures in rw t.0 refl
-
-pub returns : goal.returns
-returns c =
-    let t = told (c.args.code ∷ []) _ _ _ (omega arith) (omega (arith, members_le (c.args.code ∷ []), c.told-row)) c.tell.ensures in
-    let all : c.unwrap-count.result ≡ length (members (c.args.code ∷ [])) = cc in rw all t.1

@@ -1,4 +1,4 @@
-use Rattle.std.proofs.Common.{◌≡◌, refl, arith}
+use Rattle.std.proofs.Common.{refl, arith}
 use Rattle.inspect.proofs.Inspected.{told_all}
 use Rattle.inspect.proofs.inspector.Case.all.Goals as goal
 
@@ -6,8 +6,3 @@ pub unwrap-count-requires : goal.unwrap-count-requires
 unwrap-count-requires c =
     let t = told_all c.args.self.parts _ _ _ _ _ c.args.self.fit (omega (arith, c.told-row)) (omega (arith, c.fill.auto.words)) c.fill.ensures.after c.tell.ensures in
     rw t.0 refl
-
-pub returns : goal.returns
-returns c =
-    let t = told_all c.args.self.parts _ _ _ _ _ c.args.self.fit (omega (arith, c.told-row)) (omega (arith, c.fill.auto.words)) c.fill.ensures.after c.tell.ensures in
-    let all : c.unwrap-count.result ≡ c.args.self.parts = cc in rw all t.1

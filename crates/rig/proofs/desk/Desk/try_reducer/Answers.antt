@@ -6,8 +6,3 @@ pub returns-in-Left-clause-tried : goal.returns-in-Left-clause-tried
 returns-in-Left-clause-tried g c =
     shows c.inspected.new.self.memory c.inspected.new.self.left _ _ c.inspected.ensures.same c.is_known-monotone.ensures.same (omega arith) (omega arith)
     c.in_ok-count.ensures.whole c.in-Left.is c.is_known-monotone.ensures.known
-
-pub returns-in-Sound-clause-tried : goal.returns-in-Sound-clause-tried
-returns-in-Sound-clause-tried g c =
-    shows c.inspected.new.self.memory c.inspected.new.self.left _ _ c.inspected.ensures.same c.is_known-monotone.ensures.same (omega arith) (omega arith)
-    c.in_ok-count.ensures.whole c.in-Sound.is c.is_known-monotone.ensures.known
