@@ -1,6 +1,6 @@
 -- The lines of a journal: what is written, and what a line says. Lines are lists of bytes. Assumes nothing: these are definitions.
-use Rattle.std.specs.Prelude.{ℕ, ◌+◌, Bool, true, cond, not, List, [], ◌∷◌, ◌++◌, length, take, drop, reverse, codes, decimal, fold, find, filter, position, option_map, Some, None, Option, Ok, Err, Result, ◌==◌, nat_le}
-use Rattle.std.specs.List.{prefix_len, slice_split}
+use Rattle.std.specs.Prelude.{◌≡◌, All, ℕ, ◌+◌, ◌^◌, ◌<◌, Bool, true, false, cond, not, List, [], ◌∷◌, ◌++◌, length, take, drop, reverse, codes, decimal, fold, find, filter, position, option_map, Some, None, Option, Ok, Err, Result, ◌==◌, nat_le}
+use Rattle.std.specs.List.{list_any, prefix_len, slice_split}
 use Rattle.std.specs.Str.{bytes_eq}
 use Rattle.std.specs.Option.{ok_or, option_map_or}
 use Rattle.std.specs.Result.{result_ok}
@@ -8,7 +8,7 @@ use Rattle.bisect.specs.declared.verdict.Verdict.{Verdict}
 use Rattle.bisect.specs.declared.verdict.Verdict.TheVariants.{No, Yes, Unclear}
 use Rattle.dialog.specs.Lines.{question_line}
 use Rattle.dialog.specs.Reading.{blank, line_verdict, text_size}
-use Rattle.subset.specs.Parts.{rising}
+use Rattle.subset.specs.Parts.{rising, some_of}
 use Rattle.journal.specs.declared.line.Fault.{Fault}
 use Rattle.journal.specs.declared.line.Fault.TheVariants.{Version, NoExchange, NoPart, NotRising, Foreign, OutOfMemory}
 
@@ -92,3 +92,14 @@ exchange_read n bs = do
   ks ← ok_or (numbers (words (take i bs))) NoExchange
   _ ← checked n ks
   Ok (ks, v)
+
+-- ---- what holds of lines
+-- it is one line, and who reads doesn't pass over it
+abbrev pub IsOneLine : List ℕ → Type 0
+IsOneLine bs = (list_any (λ b. b == 10) bs ≡ false) × (skipped bs ≡ false)
+
+-- what is written of numbers of 64 bits is read back
+unfoldable pub ReadsBack : Type 0
+ReadsBack =
+    ((n : ℕ) → n < 2 ^ 64 → (heading_in (heading n) ≡ Ok n) × IsOneLine (heading n))
+    × ((n : ℕ) (ks : List ℕ) (v : Verdict) → some_of n ks ≡ true → All (λ k. k < 2 ^ 64) ks → (exchange_read n (exchange_line ks v) ≡ Ok (ks, v)) × IsOneLine (exchange_line ks v))
