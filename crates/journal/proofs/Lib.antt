@@ -1,0 +1,2 @@
+mod LineNumerals
+mod LineBack
