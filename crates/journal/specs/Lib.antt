@@ -1,1 +1,3 @@
 pub mod Line
+pub mod Promise
+pub mod Replay

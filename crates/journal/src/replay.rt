@@ -1,0 +1,117 @@
+// A journal taken up: the machine goes through what is recorded, and stands where the run stood.
+ghost use Rattle.std.specs.Prelude.{◌≡◌, ◌≢◌, ◌≤◌, ◌-◌, IfOk, IfErr, Some, Ok, Err, length, not, ◌==◌};
+ghost use Rattle.std.specs.List.{suffix_len};
+ghost use Rattle.journal.specs.declared.line.Fault.TheVariants.{OutOfMemory};
+ghost use Rattle.journal.specs.Line.{exchange_read};
+ghost use Rattle.journal.specs.Replay.{answered, by_line, cut_off, numbered, replayed, torn, whole_lines};
+
+use super::line::{Fault, exchange_in, is_skipped, parts_in};
+use bisect::Verdict;
+use session::{Act, Session};
+use std::alloc::Global;
+use std::error::Error;
+use std::fmt;
+
+// A journal that was gone through: the number of parts, and the session where the run stood.
+#[derive(Drop)]
+pub struct Replayed {
+    pub parts: u64,
+    pub session: Session,
+}
+
+// Which line is at fault, counted from 1, and what is wrong there.
+#[derive(Clone, Copy, Debug, PartialEq, Eq)]
+pub struct Broken {
+    pub line: usize,
+    pub fault: Fault,
+}
+
+// How many bytes stand behind the last newline.
+fn cut_off(text: &[u8]) -> usize
+    ensures value { result ≡ cut_off text.now }
+    ensures within { result ≤ length text.now }
+{
+    text.iter().rev().take_while(|byte| **byte != b'\n').count()
+}
+
+fn whole_lines(text: &[u8]) -> &[u8]
+    ensures { result.now ≡ whole_lines text.now }
+{
+    &text[..text.len() - cut_off(text)]
+}
+
+// A last line that was cut off in writing: what stands behind the last newline.
+pub fn torn(text: &[u8]) -> &[u8]
+    ensures { result.now ≡ torn text.now }
+{
+    &text[text.len() - cut_off(text)..]
+}
+
+// Goes on by an exchange, if the question is the one that is asked.
+fn answer(session: &mut Session, question: &[u64], verdict: Verdict) -> Result<(), Fault>
+    ensures ok { IfOk result (λ _. answered session.old (Ok (question.now, verdict)) ≡ Ok session.new) }
+    ensures err { IfErr result (λ fault. answered session.old (Ok (question.now, verdict)) ≡ Err fault) }
+{
+    let Act::Ask(asked) = session.act() else {
+        return Err(Fault::Foreign);
+    };
+    if asked != question {
+        return Err(Fault::Foreign);
+    }
+    session.hear(verdict).map_err(|_| Fault::Foreign)
+}
+
+// Goes on by a line that isn't skipped.
+fn go_on(heap: Global, replayed: Option<Replayed>, line: &[u8]) -> Result<Replayed, Fault>
+    ensures ok { IfOk result (λ after. by_line replayed line.now ≡ Ok after) }
+    ensures err { IfErr result (λ fault. fault ≢ OutOfMemory → by_line replayed line.now ≡ Err fault) }
+{
+    let Some(mut replayed) = replayed else {
+        let parts = parts_in(line)?;
+        return Ok(Replayed {
+            parts,
+            session: Session::begin(parts),
+        });
+    };
+    let (question, verdict) = exchange_in(heap, replayed.parts, line)?;
+    answer(&mut replayed.session, &question, verdict)?;
+    Ok(replayed)
+}
+
+// The same with the line's number, and where it is skipped.
+fn read_line(
+    heap: Global,
+    replayed: Option<Replayed>,
+    number: usize,
+    line: &[u8],
+) -> Result<Option<Replayed>, Broken>
+    ensures ok { IfOk result (λ after. numbered replayed number line.now ≡ Ok after) }
+    ensures err { IfErr result (λ broken. broken.fault ≢ OutOfMemory → numbered replayed number line.now ≡ Err broken) }
+{
+    if is_skipped(line) {
+        return Ok(replayed);
+    }
+    match go_on(heap, replayed, line) {
+        Ok(after) => Ok(Some(after)),
+        Err(fault) => Err(Broken {
+            line: number,
+            fault,
+        }),
+    }
+}
+
+// Goes through a journal. A last line that was cut off in writing counts as not written.
+pub fn replay(heap: Global, text: &[u8]) -> Result<Replayed, Broken>
+    ensures ok { IfOk result (λ after. replayed text.now ≡ Ok after) }
+    ensures err { IfErr result (λ broken. broken.fault ≢ OutOfMemory → replayed text.now ≡ Err broken) }
+{
+    let mut replayed = None;
+    let lines = whole_lines(text).split(|byte| *byte == b'\n');
+    for (index, line) in lines.enumerate() {
+        replayed = read_line(heap, replayed, index + 1, line)?;
+    }
+    replayed.ok_or(Broken {
+        line: 1,
+        fault: Fault::Version,
+    })
+}
