@@ -1,5 +1,5 @@
 -- A journal taken up: the reducer is told what the journal tells, as long as each question is its own. Assumes nothing: these are definitions.
-use Rattle.std.specs.Prelude.{ℕ, ◌+◌, ◌-◌, Bool, true, false, cond, not, List, length, take, drop, fold, Some, None, Option, Ok, Err, Result, ◌==◌, nat_eq}
+use Rattle.std.specs.Prelude.{ℕ, ◌+◌, ◌-◌, Bool, true, false, cond, not, List, ◌++◌, codes, decimal, length, take, drop, fold, Some, None, Option, Ok, Err, Result, ◌==◌, nat_eq}
 use Rattle.std.specs.List.{enumerate_from, slice_split, suffix_len}
 use Rattle.std.specs.Option.{ok_or, option_map_or}
 use Rattle.std.specs.Cmp.Lexicographic.{pointwise}
@@ -9,7 +9,7 @@ use Rattle.bisect.specs.declared.verdict.Verdict.{Verdict}
 use Rattle.reduce.specs.Own.{own, fault}
 use Rattle.reduce.specs.declared.Refusal.{Refusal}
 use Rattle.session.specs.Session.{begun}
-use Rattle.journal.specs.Line.{heading_in, exchange_read, skipped}
+use Rattle.journal.specs.Line.{heading_in, exchange_read, skipped, text_of}
 use Rattle.journal.specs.declared.line.Fault.{Fault}
 use Rattle.journal.specs.declared.line.Fault.TheVariants.{Version, Foreign}
 use Rattle.journal.specs.declared.replay.Broken.{Broken}
@@ -64,6 +64,10 @@ begun_by (Ok n) = Ok (record { parts = n; session = begun n })
 abbrev pub by_line : Option Replayed → List ℕ → Result Replayed Fault
 by_line None bs = begun_by (heading_in bs)
 by_line (Some j) bs = gone_on j.parts (answered j.session (exchange_read j.parts bs))
+
+-- what is printed of a line that is at fault
+abbrev pub complaint : Broken → List ℕ
+complaint b = codes "line " ++ decimal b.line ++ codes ": " ++ text_of b.fault
 
 -- ---- all lines, with the number of the first that is at fault, counted from 1
 abbrev pub at_line : ℕ → Result Replayed Fault → Result (Option Replayed) Broken

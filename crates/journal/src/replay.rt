@@ -1,14 +1,15 @@
 // A journal taken up: the machine goes through what is recorded, and stands where the run stood.
-ghost use Rattle.std.specs.Prelude.{◌≡◌, ◌≢◌, ◌≤◌, ◌-◌, IfOk, IfErr, Some, Ok, Err, length, not, ◌==◌};
-ghost use Rattle.std.specs.List.{suffix_len};
+ghost use Rattle.std.specs.Prelude.{◌≡◌, ◌≢◌, ◌≤◌, ◌-◌, IfOk, IfErr, Some, Ok, Err, length, filter, not, nat_eq, ◌==◌};
+ghost use Rattle.std.specs.List.{slice_split, starts_with, suffix_len};
 ghost use Rattle.journal.specs.declared.line.Fault.TheVariants.{OutOfMemory};
-ghost use Rattle.journal.specs.Line.{exchange_read};
-ghost use Rattle.journal.specs.Replay.{answered, by_line, cut_off, numbered, replayed, torn, whole_lines};
+ghost use Rattle.journal.specs.Line.{exchange_read, heading, skipped};
+ghost use Rattle.journal.specs.Promise.{lines_of};
+ghost use Rattle.journal.specs.Replay.{answered, by_line, complaint, cut_off, numbered, replayed, torn, whole_lines};
 
-use super::line::{Fault, exchange_in, is_skipped, parts_in};
+use super::line::{Fault, Heading, exchange_in, is_skipped, parts_in};
 use bisect::Verdict;
 use session::{Act, Session};
-use std::alloc::Global;
+use std::alloc::{AllocError, Global};
 use std::error::Error;
 use std::fmt;
 
@@ -25,6 +26,16 @@ pub struct Broken {
     pub line: usize,
     pub fault: Fault,
 }
+
+impl fmt::Display for Broken {
+    ghost output = { λ b. Some (complaint b) };
+
+    fn fmt<W: fmt::Write>(&self, f: &mut fmt::Formatter<W>) -> fmt::Result {
+        write!(f, "line {}: {}", self.line, self.fault)
+    }
+}
+
+impl Error for Broken {}
 
 // How many bytes stand behind the last newline.
 fn cut_off(text: &[u8]) -> usize
@@ -45,6 +56,28 @@ pub fn torn(text: &[u8]) -> &[u8]
     ensures { result.now ≡ torn text.now }
 {
     &text[text.len() - cut_off(text)..]
+}
+
+// Whether a text is no journal yet: there is nothing, or the heading was cut off in writing.
+pub fn is_unbegun(heap: Global, parts: u64, text: &[u8]) -> Result<bool, AllocError>
+    ensures { IfOk result (λ unbegun. unbegun ≡ starts_with nat_eq (heading parts) text.now) }
+{
+    Ok(Heading(parts).to_string(heap)?.as_bytes().starts_with(text))
+}
+
+fn kept_lines(text: &[u8]) -> usize
+    ensures { result ≡ length (filter (λ l. not (skipped l)) (slice_split (λ b. b == 10) text.now)) }
+{
+    text.split(|byte| *byte == b'\n')
+        .filter(|line| !is_skipped(line))
+        .count()
+}
+
+// How many questions a journal tells of: its lines, without those that are skipped and without the heading.
+pub fn exchanges(text: &[u8]) -> usize
+    ensures { result ≡ length (lines_of text.now) - 1 }
+{
+    kept_lines(whole_lines(text)).saturating_sub(1)
 }
 
 // Goes on by an exchange, if the question is the one that is asked.
