@@ -1,48 +1,36 @@
 // Finds the parts that make something fail, by asking at a keyboard, or another program.
 #![tactic(auto)]
 
-ghost use Rattle.std.specs.Prelude.{◌≡◌, take, IfOk};
+mod options;
+mod record;
 
-use anyhow::{Context, anyhow, bail, ensure};
-use bisect::{LENGTH, MOST};
+use anyhow::{Context, anyhow, bail};
+use bisect::{MOST, Verdict};
 use dialog::lines::{Left, Question};
 use dialog::reading::{self, SizeError};
-use reduce::{Event, Told, react};
+use options::Options;
+use record::Record;
+use session::{Act, Session};
 use std::alloc::Global;
 use std::fmt::Display;
-use std::io::{BufRead, BufReader, ErrorKind, Stdin, Write};
+use std::io::{BufRead, BufReader, Stdin, Write};
 use std::process::ExitCode;
-use std::{env, io};
-
-const USAGE: &str =
-    "usage: ask [N] (with no N, the first line of the input is the number of parts)";
+use std::io;
 
 const UNDERSTOOD: &str = "an answer is y (yes, it fails), n (no, it does not) or u (unclear)";
 
 type Lines = io::Split<BufReader<Stdin>, Global>;
 
-// The machine, with the memory and the row that are lent to it.
+// A talk about one thing that fails.
 #[derive(Drop)]
-struct Machine {
-    memory: [u64; LENGTH],
-    out: [u64; MOST as usize],
-}
-
-impl Machine {
-    fn react(&mut self, event: Event) -> anyhow::Result<Told> {
-        react(&mut self.memory, event, &mut self.out).map_err(|_| anyhow!(
-            "inner error: the machine refuses to go on"
-        ))
-    }
-
-    // The first `count` numbers of what the machine wrote.
-    fn parts(&self, count: u64) -> anyhow::Result<&[u64]>
-        ensures { IfOk result (λ parts. parts.now ≡ take count self.now.out) }
-    {
-        self.out.get(..count as usize).context(
-            "inner error: the machine tells of more parts than it has room for",
-        )
-    }
+struct Talk {
+    session: Session,
+    // What is kept of it, if anything is.
+    record: Option<Record>,
+    // So many questions were answered.
+    answered: usize,
+    // Whether it tells after each answer how far it has come.
+    verbose: bool,
 }
 
 // Prints a line, and sees to it that it is shown.
@@ -51,55 +39,86 @@ fn say(rt: &HostRuntime, line: impl Display + Drop) -> io::Result<()> {
     rt.stdout().flush()
 }
 
-// Says what the machine told, and whether that is a question.
-fn asks(rt: &HostRuntime, machine: &Machine, told: Told) -> anyhow::Result<bool> {
-    match told {
-        Told::Ask(count) => say(rt, Question(machine.parts(count)?))?,
-        Told::Rest(count) => say(rt, Left(machine.parts(count)?))?,
-        Told::Sound => say(rt, "sound")?,
-        Told::TooMany => say(rt, "too many")?,
-    }
-    Ok(matches!(told, Told::Ask(_)))
-}
-
-// Goes on with each line that is an answer; at any other the question stays.
-fn talk(
-    rt: &HostRuntime,
-    lines: &mut Lines,
-    machine: &mut Machine,
-    mut told: Told,
-) -> anyhow::Result<()> {
-    if !asks(rt, machine, told)? {
-        return Ok(());
-    }
-    for line in lines {
-        let line = line?;
-        if let Some(verdict) = reading::verdict_in(line.as_slice()) {
-            told = machine.react(Event::Said(verdict.into()))?;
-        } else {
-            let text = String::from_utf8_lossy(rt.alloc(), line.as_slice())?;
-            eprintln!(rt; "no answer: {text:?}; {UNDERSTOOD}")?;
+impl Talk {
+    // Says what the reducer does, and whether that is a question.
+    fn asks(&self, rt: &HostRuntime) -> io::Result<bool> {
+        match self.session.act() {
+            Act::Ask(question) => {
+                say(rt, Question(question))?;
+                return Ok(true);
+            }
+            Act::Left(parts) => say(rt, Left(parts))?,
+            Act::Sound => say(rt, "sound")?,
+            Act::TooMany => say(rt, "too many")?,
         }
-        if !asks(rt, machine, told)? {
+        Ok(false)
+    }
+
+    // Keeps the answer before anything else is asked.
+    fn hear(&mut self, rt: &HostRuntime, verdict: Verdict) -> anyhow::Result<()> {
+        if let (Some(record), Act::Ask(question)) = (&mut self.record, self.session.act()) {
+            record.keep(rt.alloc(), question, verdict)?;
+        }
+        self.session
+            .hear(verdict)
+            .map_err(|_| anyhow!("inner error: the reducer awaits no answer"))?;
+        self.answered = self.answered.saturating_add(1);
+        Ok(())
+    }
+
+    fn tell_progress(&self, rt: &HostRuntime) -> io::Result<()> {
+        let answered = self.answered;
+        match (self.session.progress(), self.session.act()) {
+            (Ok(progress), _) => {
+                let (left, needed) = (progress.left, progress.needed);
+                eprintln!(rt; "{answered} asked, {left} still in, {needed} found needed")
+            }
+            (_, Act::Left(parts)) => {
+                let left = parts.len();
+                eprintln!(rt; "{answered} asked, {left} still in, {left} found needed")
+            }
+            _ => eprintln!(rt; "{answered} asked"),
+        }
+    }
+
+    // Goes on by a line if it is an answer; at any other the question stays.
+    fn read(&mut self, rt: &HostRuntime, line: &[u8]) -> anyhow::Result<()> {
+        let Some(verdict) = reading::verdict_in(line) else {
+            let text = String::from_utf8_lossy(rt.alloc(), line)?;
+            eprintln!(rt; "no answer: {text:?}; {UNDERSTOOD}")?;
+            return Ok(());
+        };
+        self.hear(rt, verdict)?;
+        if self.verbose {
+            self.tell_progress(rt)?;
+        }
+        Ok(())
+    }
+
+    fn run(&mut self, rt: &HostRuntime, lines: &mut Lines) -> anyhow::Result<()> {
+        if !self.asks(rt)? {
             return Ok(());
         }
+        for line in lines {
+            self.read(rt, line?.as_slice())?;
+            if !self.asks(rt)? {
+                return Ok(());
+            }
+        }
+        if self.record.is_some() {
+            bail!("the input ended before the answer; the same command goes on with this question");
+        }
+        bail!("the input ended before the answer")
     }
-    bail!("the input ended before the answer")
 }
 
-// The number of parts as text: the argument, or else the first line of the input.
-fn size_text(rt: &HostRuntime, lines: &mut Lines) -> anyhow::Result<Vec<u8>> {
-    let args = env::args(rt).map_err(|error| match error.kind() {
-        ErrorKind::InvalidData => anyhow!("no number of parts: an argument is no text"),
-        _ => error.into(),
-    })?;
-    let mut args = args.skip(1);
-    let Some(given) = args.next() else {
-        let line = lines.next();
-        return Ok(line.context("the input ended before the number of parts")??);
-    };
-    ensure!(args.next().is_none(), "{USAGE}");
-    Ok(given.into_bytes())
+// The number of parts as text: what was given, or else the first line of the input.
+fn size_text(given: Option<String>, lines: &mut Lines) -> anyhow::Result<Vec<u8>> {
+    if let Some(given) = given {
+        return Ok(given.into_bytes());
+    }
+    let line = lines.next();
+    Ok(line.context("the input ended before the number of parts")??)
 }
 
 // An error keeps only so much of a text, so what is no number is shown here.
@@ -109,20 +128,47 @@ fn refuse(rt: &HostRuntime, given: &[u8]) -> anyhow::Result<ExitCode> {
     Ok(ExitCode::FAILURE)
 }
 
+// A talk that is begun, or taken up where its journal ends.
+fn open(rt: &HostRuntime, parts: u64, options: &Options) -> anyhow::Result<Talk> {
+    let verbose = options.verbose;
+    let (Some(path), true) = (&options.journal, parts <= MOST) else {
+        return Ok(Talk {
+            session: Session::begin(parts),
+            record: None,
+            answered: 0,
+            verbose,
+        });
+    };
+    let mut record = Record::open(rt, path)?;
+    let (session, answered) = record.take_up(rt.alloc(), parts)?;
+    Ok(Talk {
+        session,
+        record: Some(record),
+        answered,
+        verbose,
+    })
+}
+
 fn run(rt: &HostRuntime) -> anyhow::Result<ExitCode> {
     let heap = rt.alloc();
+    let mut options = Options::read(rt)?;
     let mut lines = BufReader::new(heap, rt.stdin())?.split(heap, b'\n');
-    let given = size_text(rt, &mut lines)?;
-    let mut machine = Machine {
-        memory: [0; LENGTH],
-        out: [0; MOST as usize],
-    };
-    let told = match reading::size_in(given.as_slice()) {
-        Ok(count) => machine.react(Event::Parts(count))?,
-        Err(SizeError::TooMany) => Told::TooMany,
+    let given = size_text(options.size.take(), &mut lines)?;
+    let parts = match reading::size_in(given.as_slice()) {
+        Ok(parts) => parts,
+        // As good as any number that is too large.
+        Err(SizeError::TooMany) => u64::MAX,
         Err(SizeError::NoNumber) => return refuse(rt, given.as_slice()),
     };
-    talk(rt, &mut lines, &mut machine, told)?;
+    let mut talk = match open(rt, parts, &options) {
+        Ok(talk) => talk,
+        Err(error) => {
+            let path = options.journal.as_deref().unwrap_or("");
+            eprintln!(rt; "ask: {path}: {error}")?;
+            return Ok(ExitCode::FAILURE);
+        }
+    };
+    talk.run(rt, &mut lines)?;
     Ok(ExitCode::SUCCESS)
 }
 

@@ -148,3 +148,130 @@ pub fn replay(heap: Global, text: &[u8]) -> Result<Replayed, Broken>
         fault: Fault::Version,
     })
 }
+
+#[cfg(test)]
+mod tests {
+    use super::*;
+    use std::test::Fail;
+
+    // Six parts, of which 1 and 4 together fail: the first four questions are known by hand.
+    const BEGUN: &[u8] =
+        b"hidlombe 1, parts: 6\n0 1 2 3 4 5? y\n0 1? n\n0 1 2 3? n\n0 1 2 3 4? y\n";
+
+    fn fault(heap: Global, text: &[u8]) -> Option<Broken> {
+        replay(heap, text).err()
+    }
+
+    // What a text is refused for when it stands where the second question does.
+    fn fault_at_second(heap: Global, line: &[u8]) -> Result<Option<Broken>, AllocError> {
+        let mut text = Vec::new(heap);
+        text.extend_from_slice(b"hidlombe 1, parts: 6\n0 1 2 3 4 5? y\n")?;
+        text.extend_from_slice(line)?;
+        text.extend_from_slice(b"\nnobody reads this\n")?;
+        Ok(fault(heap, &text))
+    }
+
+    #[test]
+    fn goes_on(rt: HostRuntime) -> Result<(), Fail> {
+        let heap = rt.alloc();
+        let replayed = replay(heap, BEGUN)?;
+        assert_eq!(rt; replayed.parts, 6);
+        assert_eq!(rt; replayed.session.act(), Act::Ask(&[0, 4]));
+        assert_eq!(rt; exchanges(BEGUN), 4);
+        Ok(())
+    }
+
+    #[test]
+    fn names_the_line(rt: HostRuntime) -> Result<(), Fail> {
+        let heap = rt.alloc();
+        for (line, fault) in [
+            (b"0 1".as_slice(), Fault::NoExchange),
+            (b"0 1? yes".as_slice(), Fault::NoExchange),
+            (b"0 x? y".as_slice(), Fault::NoExchange),
+            (b"0 6? y".as_slice(), Fault::NoPart(6)),
+            (b"1 0? y".as_slice(), Fault::NotRising),
+            (b"0 2? y".as_slice(), Fault::Foreign),
+            (b"0 1 2? y".as_slice(), Fault::Foreign),
+        ] {
+            assert_eq!(rt;
+                fault_at_second(heap, line)?,
+                Some(Broken { line: 3, fault })
+            );
+        }
+        Ok(())
+    }
+
+    #[test]
+    fn needs_a_heading(rt: HostRuntime) {
+        let heap = rt.alloc();
+        let none = Some(Broken {
+            line: 1,
+            fault: Fault::Version,
+        });
+        assert_eq!(rt; fault(heap, b""), none);
+        assert_eq!(rt; fault(heap, b"hidlombe 2, parts: 6\n"), none);
+        assert_eq!(rt; fault(heap, b"0 1 2 3 4 5? y\n"), none);
+        // A heading that was cut off is none.
+        assert_eq!(rt; fault(heap, b"hidlombe 1, parts: 6"), none);
+    }
+
+    // A whole run: nothing more is asked after the end.
+    #[test]
+    fn nothing_after_the_end(rt: HostRuntime) {
+        let heap = rt.alloc();
+        let text = b"hidlombe 1, parts: 1\n0? n\n0? n\n";
+        let ended = Some(Broken {
+            line: 3,
+            fault: Fault::Foreign,
+        });
+        assert_eq!(rt; fault(heap, text), ended);
+    }
+
+    #[test]
+    fn skips(rt: HostRuntime) -> Result<(), Fail> {
+        let heap = rt.alloc();
+        let text = b"hid #\nhidlombe 1, parts: 6\n\n0 1 2 3 4 5? y\r\n0 1? y #\n0 1? n\n0 1 2";
+        let replayed = replay(heap, text)?;
+        assert_eq!(rt; replayed.session.act(), Act::Ask(&[0, 1, 2, 3]));
+        assert_eq!(rt; exchanges(text), 2);
+        assert_eq!(rt; torn(text), b"0 1 2".as_slice());
+        assert!(rt; torn(BEGUN).is_empty());
+        Ok(())
+    }
+
+    #[test]
+    fn begun_or_not(rt: HostRuntime) -> Result<(), Fail> {
+        let heap = rt.alloc();
+        assert!(rt; is_unbegun(heap, 6, b"")?);
+        assert!(rt; is_unbegun(heap, 6, b"hidlombe 1, par")?);
+        assert!(rt; is_unbegun(heap, 6, b"hidlombe 1, parts: 6")?);
+        assert!(rt; !is_unbegun(heap, 6, b"hidlombe 1, parts: 7")?);
+        assert!(rt; !is_unbegun(heap, 6, b"hidlombe 1, parts: 6\n")?);
+        assert!(rt; !is_unbegun(heap, 6, b"another file")?);
+        Ok(())
+    }
+
+    #[test]
+    fn says_where(rt: HostRuntime) -> Result<(), Fail> {
+        let broken = Broken {
+            line: 12,
+            fault: Fault::NoPart(9),
+        };
+        assert_eq!(rt;
+            broken.to_string(rt.alloc())?.as_str(),
+            "line 12: there is no part 9"
+        );
+        Ok(())
+    }
+
+    #[test]
+    fn an_answer_leads_on(rt: HostRuntime) {
+        let mut session = Session::begin(2);
+        assert_eq!(rt;
+            answer(&mut session, &[0], Verdict::Yes),
+            Err(Fault::Foreign)
+        );
+        assert_eq!(rt; answer(&mut session, &[0, 1], Verdict::No), Ok(()));
+        assert_eq!(rt; session.act(), Act::Sound);
+    }
+}
