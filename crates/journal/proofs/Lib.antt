@@ -1,2 +1,3 @@
 mod LineNumerals
 mod LineBack
+mod Own

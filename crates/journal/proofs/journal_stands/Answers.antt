@@ -1,0 +1,5 @@
+use Rattle.journal.proofs.Own.{only_its_own}
+use Rattle.journal.proofs.journal_stands.Goals as goal
+
+pub returns-clause-only : goal.returns-clause-only
+returns-clause-only c = only_its_own
