@@ -1,3 +1,4 @@
 mod LineNumerals
 mod LineBack
 mod Own
+mod GoesOn

@@ -207,10 +207,9 @@ begins bs j t = record {
   goes = record { recorded = t.recorded; parts = refl; read = t.read; own = t.own; stands = t.stands };
 }
 
+pub replayed_from : (bs : List ℕ) (j : Replayed) → Tells bs j → replayed bs ≡ Ok j
+replayed_from bs j t = to_none j (slice_split (λ b. b == 10) (whole_lines bs)) 0 (begins bs j t)
+
 pub only_its_own : OnlyItsOwn
 unfolding OnlyItsOwn
-only_its_own bs j =
-    let ls = slice_split (λ b. b == 10) (whole_lines bs) in (
-      (λ e. tells bs j (from_none j ls 0 e)),
-      (λ t. to_none j ls 0 (begins bs j t)),
-    )
+only_its_own bs j = ((λ e. tells bs j (from_none j (slice_split (λ b. b == 10) (whole_lines bs)) 0 e)), replayed_from bs j)
