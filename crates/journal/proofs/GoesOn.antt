@@ -1,7 +1,7 @@
 -- What was written of a run leads back to where it stood.
-use Rattle.std.proofs.Common.{arith, ◌≡◌, ℕ, ◌+◌, ◌-◌, ◌<◌, ◌^◌, Bool, true, false, not, ltb, List, [], ◌∷◌, ◌++◌, length, take, map, filter, All, Some, None, Option, Ok, Result, ◌==◌, ◌||◌, ◌∙◌, sym, ap, refl, cond}
+use Rattle.std.proofs.Common.{arith, ◌≡◌, ℕ, ◌-◌, ◌<◌, ◌^◌, Bool, true, false, not, ltb, List, [], ◌∷◌, ◌++◌, length, map, filter, All, Some, None, Option, Ok, ◌==◌, ◌||◌, ◌∙◌, sym, ap, refl}
 use Rattle.std.specs.List.{flat_map, list_all, list_any, slice_split}
-use Rattle.std.proofs.lemmas.Bool.{and_parts, cond-true, cond-false, ltb-true}
+use Rattle.std.proofs.lemmas.Bool.{and_parts, cond-true, ltb-true}
 use Rattle.std.proofs.lemmas.List.{append-nil, append_assoc, reverse-append, take_all}
 use Rattle.std.proofs.lemmas.List.Elements.{All-cons, All-nil, All-weaker}
 use Rattle.std.proofs.lemmas.List.Folds.{flat_map-map}
@@ -14,8 +14,7 @@ use Rattle.session.specs.Session.{begun}
 use Rattle.journal.specs.Line.{IsOneLine, ReadsBack, exchange_line, exchange_read, heading, heading_in, skipped}
 use Rattle.journal.specs.Promise.{GoesOn, Tells, after, exchanged, exchanges, journal_of, line, lines_of, went}
 use Rattle.journal.specs.Replay.{awaited, cut_off, told_verdict, whole_lines}
-use Rattle.journal.specs.declared.line.Fault.{Fault}
-use Rattle.journal.specs.declared.replay.Replayed.{Replayed}
+use Rattle.journal.proofs.Asks.{exchanges_some}
 use Rattle.journal.proofs.LineBack.{reads_back}
 use Rattle.journal.proofs.Own.{replayed_from}
 
@@ -117,12 +116,11 @@ after_again s (v ∷ vs) = by (awaited s) refl (after_again (told_verdict s v) v
     by (Some ks) asked rest = rw (asked, rest)
 
 -- ---- so the journal tells it
-told : (n : ℕ) (vs : List Verdict) → n < 2 ^ 64 → list_all (λ e. some_of n e.0) (exchanges (begun n) vs) ≡ true
-    → Tells (journal_of n (exchanges (begun n) vs)) (record { parts = n; session = after (begun n) vs })
-told n vs small some =
+told : (n : ℕ) (vs : List Verdict) → n < 2 ^ 64 → Tells (journal_of n (exchanges (begun n) vs)) (record { parts = n; session = after (begun n) vs })
+told n vs small =
     let es = exchanges (begun n) vs in
     let first = back reads_back n small in
-    let rest = all_back n small es some in
+    let rest = all_back n small es (exchanges_some n vs) in
     record {
       first = heading n;
       rest = map written es;
@@ -136,4 +134,4 @@ told n vs small some =
 
 pub goes_on : GoesOn
 unfolding GoesOn
-goes_on n vs small some = replayed_from _ _ (told n vs small some)
+goes_on n vs small = replayed_from _ _ (told n vs small)

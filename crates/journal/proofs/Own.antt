@@ -5,7 +5,6 @@ use Rattle.std.specs.Cmp.Lexicographic.{pointwise, bytes_decides}
 use Rattle.std.specs.List.{enumerate_from, slice_split}
 use Rattle.std.specs.Option.{option_map_or}
 use Rattle.std.proofs.lemmas.List.Folds.{fold_stays}
-use Rattle.bisect.specs.Engine.{Step}
 use Rattle.bisect.specs.declared.verdict.Verdict.{Verdict}
 use Rattle.session.specs.Session.{begun}
 use Rattle.journal.specs.Line.{heading_in, exchange_read, skipped}
