@@ -1,2 +1,5 @@
 mod LineNumerals
 mod LineBack
+mod Own
+mod Asks
+mod GoesOn

@@ -1,7 +1,6 @@
 -- What a journal promises. Assumes nothing: these are definitions.
 use Rattle.std.specs.Prelude.{◌≡◌, ℕ, ◌^◌, ◌<◌, Bool, true, false, not, List, [], ◌∷◌, ◌++◌, map, length, filter, flat_map, Some, None, Option, Ok, Err, Result, ◌==◌}
 use Rattle.std.specs.List.{list_all, slice_split}
-use Rattle.subset.specs.Parts.{some_of}
 use Rattle.bisect.specs.Engine.{Step}
 use Rattle.bisect.specs.declared.verdict.Verdict.{Verdict}
 use Rattle.session.specs.Session.{begun}
@@ -38,8 +37,7 @@ journal_of n es = line (heading n) ++ flat_map (λ e. line (exchange_line e.0 e.
 -- WHAT WAS WRITTEN OF A RUN LEADS BACK TO WHERE IT STOOD: its memory is just what it was, and it asks what it asked
 unfoldable pub GoesOn : Type 0
 GoesOn =
-    (n : ℕ) (vs : List Verdict) → n < 2 ^ 64 → list_all (λ e. some_of n e.0) (exchanges (begun n) vs) ≡ true
-    → replayed (journal_of n (exchanges (begun n) vs)) ≡ Ok (record { parts = n; session = after (begun n) vs })
+    (n : ℕ) (vs : List Verdict) → n < 2 ^ 64 → replayed (journal_of n (exchanges (begun n) vs)) ≡ Ok (record { parts = n; session = after (begun n) vs })
 
 -- the lines that aren't skipped
 abbrev pub lines_of : List ℕ → List (List ℕ)

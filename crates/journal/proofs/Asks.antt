@@ -1,0 +1,118 @@
+-- The reducer asks only of parts that are there, whatever it is told.
+use Rattle.std.proofs.Common.{arith, ◌≡◌, ℕ, suc, ◌<◌, ◌==◌, Bool, true, false, cond, ltb, leb, List, [], ◌∷◌, length, get_or, Some, None, Option, ◌∙◌, sym, ap, refl}
+use Rattle.std.specs.List.{list_all}
+use Rattle.std.proofs.lemmas.Bool.{and_from, cond_both, ltb-true}
+use Rattle.subset.specs.Parts.{all_parts, some_of}
+use Rattle.subset.proofs.Changes.{some_of_all}
+use Rattle.subset.proofs.Lists.{without_some}
+use Rattle.bisect.specs.Engine.{Act, ask, left, sound, refused, Step}
+use Rattle.bisect.specs.Machine.{asking}
+use Rattle.bisect.specs.Search.{Pass, fresh, cut_of, question, answered}
+use Rattle.bisect.specs.Verdict.{number_of}
+use Rattle.bisect.specs.declared.verdict.Verdict.{Verdict}
+use Rattle.bisect.proofs.Cut.{cut_inner}
+use Rattle.bisect.proofs.Keep.{keep_some}
+use Rattle.bisect.proofs.Right.{Ready, heard_ready}
+use Rattle.reduce.specs.State.{State, idle, first, seek, try, over, calm, many, less, trial, go_on, next, next_by, begin, act_of, act_by}
+use Rattle.reduce.proofs.Stored.{Stands, follows}
+use Rattle.session.specs.Session.{begun}
+use Rattle.journal.specs.Promise.{exchanged, exchanges}
+use Rattle.journal.specs.Replay.{awaited, question_of, told_verdict}
+
+-- ---- over lists: what is held is some of the parts
+module _ (n : ℕ) where
+  abbrev Holds : State → Type 0
+  Holds idle = Unit {0}
+  Holds (first ks) = some_of n ks ≡ true
+  Holds (seek p) = (p.at.lo < p.at.row) × (some_of n p.held ≡ true)
+  Holds (try i ks) = some_of n ks ≡ true
+  Holds (over ks) = Unit {0}
+  Holds calm = Unit {0}
+  Holds many = Unit {0}
+
+  holds_trial : (i : ℕ) (ks : List ℕ) → some_of n ks ≡ true → Holds (trial i ks)
+  unfolding trial
+  holds_trial i ks some = cond_both (ltb i (length ks)) (try i ks) (over ks) Holds (λ e. some) (λ e. tt)
+
+  holds_go : (p : Pass) → Ready p.at → some_of n p.held ≡ true → Holds (go_on p)
+  unfolding go_on
+  holds_go p ready some =
+      cond_both (ltb 0 p.at.row) (seek p) (trial p.at.sure p.held) Holds (λ e. (ready (ltb-true _ _ e), some)) (λ e. holds_trial p.at.sure p.held some)
+
+  some_asked : (p : Pass) → p.at.lo < p.at.row → some_of n p.held ≡ true → some_of n (question (cut_of p) p) ≡ true
+  some_asked p low some = keep_some n (cut_of p) p.at.row p.held (omega (arith, (cut_inner p low).1)) some
+
+  some_held : (p : Pass) (b : Bool) → p.at.lo < p.at.row → some_of n p.held ≡ true → some_of n (answered (cut_of p) p b).held ≡ true
+  some_held p true low some = some_asked p low some
+  some_held p false low some = some
+
+  holds_next : (s : State) (b : Bool) → Holds s → Holds (next s b)
+  unfolding next_by
+  holds_next idle b h = tt
+  holds_next (first ks) true some = holds_go (fresh ks) (λ e. e) some
+  holds_next (first ks) false some = tt
+  holds_next (seek p) b (low, some) = holds_go (answered (cut_of p) p b) (heard_ready (cut_of p) p.at b) (some_held p b low some)
+  holds_next (try i ks) true some = holds_go (fresh (less i ks)) (λ e. e) (without_some (get_or ks i 0) n ks some)
+  holds_next (try i ks) false some = holds_trial (suc i) ks some
+  holds_next (over ks) b h = tt
+  holds_next calm b h = tt
+  holds_next many b h = tt
+
+  holds_begin : Holds (begin n)
+  unfolding begin
+  holds_begin = cond_both (leb n 4096) (first (all_parts n)) many Holds (λ e. some_of_all n n (omega arith)) (λ e. tt)
+
+  same_question : (js ks : List ℕ) → ask js ≡ ask ks → some_of n js ≡ true → some_of n ks ≡ true
+  same_question js ks e some = let same : ks ≡ js = cc in rw same some
+
+  asks_some : (s : State) (ks : List ℕ) → act_of s ≡ ask ks → Holds s → some_of n ks ≡ true
+  unfolding act_by
+  asks_some idle ks e h = absurd (cc)
+  asks_some (first js) ks e some = same_question js ks e some
+  asks_some (seek p) ks e (low, some) = same_question (question (cut_of p) p) ks e (some_asked p low some)
+  asks_some (try i js) ks e some = same_question (less i js) ks e (without_some (get_or js i 0) n js some)
+  asks_some (over js) ks e h = absurd (cc)
+  asks_some calm ks e h = absurd (cc)
+  asks_some many ks e h = absurd (cc)
+
+-- ---- over the memory
+record At (n : ℕ) (t : Step) : Type 0 where
+  state : State
+  act : t.act ≡ act_of state
+  stands : asking (act_of state) ≡ true → Stands t.memory state
+  holds : Holds n state
+
+at_begun : (n : ℕ) → At n (begun n)
+at_begun n = record { state = begin n; act = follows.begins_act n; stands = follows.begins n; holds = holds_begin n }
+
+at_told : (n : ℕ) (t : Step) (ks : List ℕ) (v : Verdict) → At n t → t.act ≡ ask ks → At n (told_verdict t v)
+at_told n t ks v at asked =
+    let stands = at.stands (ap asking (sym at.act ∙ asked)) in
+    record {
+      state = next at.state (number_of v == 1);
+      act = follows.tells t.memory at.state (number_of v) stands;
+      stands = follows.keeps t.memory at.state (number_of v) stands;
+      holds = holds_next n at.state (number_of v == 1) at.holds;
+    }
+
+awaited_asked : (b : Bool) (a : Act) (ks : List ℕ) → cond b (question_of a) None ≡ Some ks → a ≡ ask ks
+awaited_asked true (ask js) ks e = let same : js ≡ ks = cc in ap ask same
+awaited_asked true (left js) ks e = absurd (cc)
+awaited_asked true sound ks e = absurd (cc)
+awaited_asked true refused ks e = absurd (cc)
+awaited_asked false a ks e = absurd (cc)
+
+exchanges_at : (n : ℕ) (t : Step) (vs : List Verdict) → At n t → list_all (λ e. some_of n e.0) (exchanges t vs) ≡ true
+unfolding exchanges
+exchanges_at n t [] at = refl
+exchanges_at n t (v ∷ vs) at = by (awaited t) refl (exchanges_at n (told_verdict t v) vs)
+  where
+    by : (o : Option (List ℕ)) → awaited t ≡ o → (At n (told_verdict t v) → list_all (λ e. some_of n e.0) (exchanges (told_verdict t v) vs) ≡ true)
+        → list_all (λ e. some_of n e.0) (exchanged o v (exchanges (told_verdict t v) vs)) ≡ true
+    by None asked rest = refl
+    by (Some ks) asked rest =
+        let act = awaited_asked _ t.act ks asked in
+        and_from _ _ (asks_some n at.state ks (sym at.act ∙ act) at.holds) (rest (at_told n t ks v at act))
+
+pub exchanges_some : (n : ℕ) (vs : List Verdict) → list_all (λ e. some_of n e.0) (exchanges (begun n) vs) ≡ true
+exchanges_some n vs = exchanges_at n (begun n) vs (at_begun n)

@@ -1,0 +1,9 @@
+use Rattle.journal.proofs.GoesOn.{goes_on}
+use Rattle.journal.proofs.Own.{only_its_own}
+use Rattle.journal.proofs.journal_stands.Goals as goal
+
+pub returns-clause-goes_on : goal.returns-clause-goes_on
+returns-clause-goes_on c = goes_on
+
+pub returns-clause-only : goal.returns-clause-only
+returns-clause-only c = only_its_own
