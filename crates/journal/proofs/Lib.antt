@@ -1,2 +1,5 @@
 mod LineNumerals
 mod LineBack
+mod Pieces
+mod CutOff
+mod First

@@ -1,0 +1,15 @@
+use Rattle.journal.proofs.CutOff.{cut_off_is_nothing}
+use Rattle.journal.proofs.First.{names_the_first}
+use Rattle.journal.proofs.journal_stands.Goals as goal
+
+pub returns-clause-goes_on : goal.returns-clause-goes_on
+returns-clause-goes_on c = ?
+
+pub returns-clause-only : goal.returns-clause-only
+returns-clause-only c = ?
+
+pub returns-clause-first : goal.returns-clause-first
+returns-clause-first c = names_the_first
+
+pub returns-clause-cut_off : goal.returns-clause-cut_off
+returns-clause-cut_off c = cut_off_is_nothing
