@@ -3,3 +3,6 @@ mod LineBack
 mod Own
 mod Asks
 mod GoesOn
+mod Pieces
+mod CutOff
+mod First
