@@ -1,5 +1,5 @@
 -- What a journal promises. Assumes nothing: these are definitions.
-use Rattle.std.specs.Prelude.{◌≡◌, ℕ, ◌^◌, ◌<◌, Bool, true, false, not, List, [], ◌∷◌, ◌++◌, map, length, filter, flat_map, Some, None, Option, Ok, Err, Result, ◌==◌}
+use Rattle.std.specs.Prelude.{◌≡◌, ℕ, ◌^◌, ◌<◌, true, false, not, List, [], ◌∷◌, ◌++◌, map, length, filter, flat_map, Some, None, Option, Ok, Err, ◌==◌}
 use Rattle.std.specs.List.{list_all, slice_split}
 use Rattle.bisect.specs.Engine.{Step}
 use Rattle.bisect.specs.declared.verdict.Verdict.{Verdict}
@@ -7,7 +7,6 @@ use Rattle.session.specs.Session.{begun}
 use Rattle.journal.specs.Line.{heading, heading_in, exchange_line, exchange_read, skipped}
 use Rattle.journal.specs.Replay.{awaited, awaits, cut_off, replayed, told_verdict, whole_lines}
 use Rattle.journal.specs.declared.line.Fault.TheVariants.{Foreign}
-use Rattle.journal.specs.declared.replay.Broken.{Broken}
 use Rattle.journal.specs.declared.replay.Replayed.{Replayed}
 
 -- ---- a run that is told these verdicts, as far as it asks: what was asked and answered, and where it then stands

@@ -1,4 +1,4 @@
-use Rattle.std.proofs.Common.{rules, tests, List, ℕ, not, ◌==◌}
+use Rattle.std.proofs.Common.{rules, tests, not, ◌==◌}
 use Rattle.std.proofs.lemmas.Iterator.Splits.{YieldsList-from_slice_split}
 use Rattle.std.proofs.lemmas.Iterator.Consumers.{YieldsList-at, YieldsList-from_filter, count_from_yields_List}
 use Rattle.journal.specs.Line.{skipped}
