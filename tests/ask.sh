@@ -108,3 +108,109 @@ run '\xff\n\nn\n' 6
 expect "nor is a line that is no text, or an empty one" 0 "$six"$'\n'"$six"$'\n'"$six"$'\nsound' 'no answer: ""'
 run 'n' 6
 expect "a last line with no end" 0 "$six"$'\nsound' ""
+
+# ---- with a journal
+journal=$folder/journal
+heading="hidlombe 1, parts: 6"
+whole=("$heading" "0 1 2 3 4 5? y" "0 1? n" "0 1 2 3? n" "0 1 2 3 4? y" "0 4? n" "0 1 4? y" "1 4? y" "4? n" "1? n")
+
+# lay LINE..: makes the journal of these lines
+lay() {
+    printf '%s\n' "$@" >"$journal"
+}
+
+# holds NAME LINE..: holds the journal to these lines
+holds() {
+    local name=$1
+    shift
+    printf '%s\n' "$@" | cmp -s - "$journal" || fail "$name: the journal is '$(<"$journal")'"
+    echo "ok: $name: the journal"
+}
+
+run 'y\nn\nn\n' 6 "$journal"
+expect "a journal is begun" 1 "$six"$'\n0 1?\n0 1 2 3?\n0 1 2 3 4?' "the same command goes on with this question"
+holds "a journal is begun" "${whole[@]:0:4}"
+run 'y\nn\ny\ny\nn\nn\n' 6 "$journal"
+expect "it is gone on with" 0 $'0 1 2 3 4?\n0 4?\n0 1 4?\n1 4?\n4?\n1?\nleft 1 4' ""
+holds "it is gone on with" "${whole[@]}"
+run '' 6 "$journal"
+expect "one that has ended tells its end" 0 "left 1 4" ""
+holds "one that has ended tells its end" "${whole[@]}"
+
+run 'y\n' 7 "$journal"
+expect "a journal of another number of parts" 1 "" "it is the journal of 6 parts, and not of 7"
+holds "a journal of another number of parts" "${whole[@]}"
+
+# A line that was cut off at any byte is ended, skipped, and its question asked again.
+for cut in "1? n" "1? " "1?" 1; do
+    lay "${whole[@]:0:9}"
+    printf '%s' "$cut" >>"$journal"
+    run 'n\n' 6 "$journal"
+    expect "a last line cut off to '$cut'" 0 $'1?\nleft 1 4' ""
+    holds "a last line cut off to '$cut'" "${whole[@]:0:9}" "$cut #" "1? n"
+done
+for cut in "" h "hidlombe 1, parts: " "$heading"; do
+    printf '%s' "$cut" >"$journal"
+    run 'n\n' 6 "$journal"
+    expect "a heading cut off to '$cut'" 0 "$six"$'\nsound' ""
+    holds "a heading cut off to '$cut'" ${cut:+"$cut #"} "$heading" "0 1 2 3 4 5? n"
+done
+
+# refused NAME MESSAGE LINE..: a journal of these lines is refused, and stays
+refused() {
+    local name=$1 message=$2
+    shift 2
+    lay "$@"
+    run 'y\n' 6 "$journal"
+    expect "$name" 1 "" "$journal: $message"
+    holds "$name" "$@"
+}
+
+refused "another version" "line 1: no journal of this version" "hidlombe 2, parts: 6"
+refused "another file" "line 1: no journal of this version" "int main(void)" "{}"
+refused "a part out of range" "line 3: there is no part 6" "${whole[@]:0:2}" "0 6? n"
+refused "parts that don't rise" "line 3: the parts don't rise" "${whole[@]:0:2}" "1 0? n"
+refused "an answer that is none" "line 3: no question with its answer" "${whole[@]:0:2}" "0 1? maybe"
+refused "a line cut off that isn't the last" "line 3: no question with its answer" "${whole[@]:0:2}" "0 1" "0 1? n"
+refused "a foreign question" "line 4: the reducer asks something else here" "${whole[@]:0:3}" "0 1 2? n"
+refused "a question after the end" "line 11: the reducer asks something else here" "${whole[@]}" "1? n"
+printf 'another file' >"$journal"
+run 'y\n' 6 "$journal"
+expect "another file with no newline" 1 "" "line 1: no journal of this version"
+[[ $(<"$journal") == "another file" ]] || fail "another file with no newline was changed"
+
+# A person may leave blanks and empty lines, and end a line with a mark.
+lay "$heading" "" "0  1 2 3 4 5 ?  y " "0 1? y #" "0 1? n"
+run 'n\n' 6 "$journal"
+expect "a journal that was mended by hand" 1 $'0 1 2 3?\n0 1 2 3 4?' "goes on with this question"
+
+run 'y\n' 6 "$folder/nowhere/journal"
+expect "a journal that can't be made" 1 "" "$folder/nowhere/journal: "
+run '' 4097 "$folder/many"
+expect "too many parts for a journal" 0 "too many" ""
+[[ ! -e $folder/many ]] || fail "too many parts made a journal"
+
+# Killed once it has asked anew, the answer before stands in the journal.
+rm "$journal"
+coproc ASK { exec "$ask" 6 "$journal"; }
+pid=$ASK_PID
+exec {from}<&"${ASK[0]}" {to}>&"${ASK[1]}"
+read -r -t 20 -u "$from"
+echo y >&"$to"
+read -r -t 20 -u "$from"
+run 'y\n' 6 "$journal"
+expect "a second program on one journal" 1 "" "another program has it open"
+kill -KILL "$pid"
+wait "$pid" 2>"$folder/wait" || true
+exec {from}<&- {to}>&-
+holds "killed after an answer" "${whole[@]:0:2}"
+
+progress=$'1 asked, 6 still in, 0 found needed\n2 asked, 6 still in, 0 found needed\n3 asked, 6 still in, 0 found needed
+4 asked, 5 still in, 1 found needed\n5 asked, 5 still in, 1 found needed\n6 asked, 3 still in, 2 found needed
+7 asked, 2 still in, 2 found needed\n8 asked, 2 still in, 2 found needed\n9 asked, 2 still in, 2 found needed'
+lay "${whole[@]:0:4}"
+run 'y\nn\ny\ny\nn\nn\n' -v 6 "$journal"
+[[ $told == "$(tail -n 6 <<<"$progress")" ]] || fail "-v told '$told'"
+run 'y\nn\nn\ny\nn\ny\ny\nn\nn\n' 6 -v
+[[ $told == "$progress" ]] || fail "-v with no journal told '$told'"
+echo "ok: -v tells how far it has come"
