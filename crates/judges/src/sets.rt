@@ -16,6 +16,6 @@ impl<'a> Judge for Sets<'a> {
     ghost meaning = { λ s. by_sets s.sets.now };
 
     fn says(&mut self, subset: &[u64]) -> u64 {
-        u64::from(lists(self.sets).any(|set| all_in(set, subset)))
+        Verdict::from(lists(self.sets).any(|set| all_in(set, subset))).into()
     }
 }
