@@ -51,7 +51,10 @@ pub fn run<J: Judge>(
     loop {
         let verdict = match told {
             Told::Ask(count) => judge.says(&out[..count as usize]),
-            Told::Rest(count) => return Ok(Ended { left: Some(count), asked }),
+            Told::Rest(count) => return Ok(Ended {
+                left: Some(count),
+                asked,
+            }),
             Told::Sound => return Ok(Ended { left: None, asked }),
             Told::TooMany => return Err(RunError::TooMany),
         };
@@ -70,7 +73,13 @@ mod tests {
         let mut judge = Sets { sets: &[2, 1, 4] };
         let mut out = [7; 4096];
         let ended = run(&mut judge, 6, &mut [5; 72], &mut out);
-        assert_eq!(rt; ended, Ok(Ended { left: Some(2), asked: 9 }));
+        assert_eq!(rt;
+            ended,
+            Ok(Ended {
+                left: Some(2),
+                asked: 9
+            })
+        );
         assert_eq!(rt; (out[0], out[1]), (1, 4));
     }
 }
