@@ -130,10 +130,7 @@ impl Desk {
     {
         self.inspected(&mut Machine::new(), judge, parts, told)?;
         let monotone = is_known(judge, parts, told);
-        let (left, asked) = match run(judge, parts, &mut self.memory, &mut self.left)? {
-            Ended::Left { count, asked } => (Some(count), asked),
-            Ended::Sound { asked } => (None, asked),
-        };
+        let Ended { left, asked } = run(judge, parts, &mut self.memory, &mut self.left)?;
         Ok(Shown {
             left,
             asked,

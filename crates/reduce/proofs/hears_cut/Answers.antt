@@ -12,7 +12,7 @@ seeks-requires c =
     let ks = held c.args.memory.now in
     let next = hear_after c.args.at (length ks) c.count.result c.args.fails c.hear.result c.unwrap-next.result c.count.ensures c.requires c.hear.ensures c.unwrap-next.ensures in
     let kept : held c.if-fails.memory ≡ cond c.args.fails (asked c.args.at ks) ks = elim c.if-fails.branch
-        [ then-fails w ↦ rw w.if-fails.true (ap held w.memory-is ∙ w.keep_asked.ensures) | else-fails w ↦ rw w.if-fails.false (ap held w.memory-is) ] in
+    [ then-fails w ↦ rw w.if-fails.true (ap held w.memory-is ∙ w.keep_asked.ensures) | else-fails w ↦ rw w.if-fails.false (ap held w.memory-is) ] in
     heard_placed c.args.at ks c.args.fails c.requires (pass c.unwrap-next.result (held c.if-fails.memory)) (ap₂ (λ s js. pass s js) next kept)
 
 pub returns : goal.returns
@@ -20,7 +20,7 @@ returns c =
     let ks = held c.args.memory.now in
     let next = hear_after c.args.at (length ks) c.count.result c.args.fails c.hear.result c.unwrap-next.result c.count.ensures c.requires c.hear.ensures c.unwrap-next.ensures in
     let kept : held c.if-fails.memory ≡ cond c.args.fails (asked c.args.at ks) ks = elim c.if-fails.branch
-        [ then-fails w ↦ rw w.if-fails.true (ap held w.memory-is ∙ w.keep_asked.ensures) | else-fails w ↦ rw w.if-fails.false (ap held w.memory-is) ] in
+    [ then-fails w ↦ rw w.if-fails.true (ap held w.memory-is ∙ w.keep_asked.ensures) | else-fails w ↦ rw w.if-fails.false (ap held w.memory-is) ] in
     does _ _ _ _ _ _
     (ap (λ p. moved c.args.size ks (go_on p)) (sym (ap₂ (λ s js. pass s js) next kept))
     ∙ moved_pass c.args.size ks (held c.if-fails.memory) (pass c.unwrap-next.result (held c.if-fails.memory)))
