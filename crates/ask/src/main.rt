@@ -30,8 +30,9 @@ struct Machine {
 
 impl Machine {
     fn react(&mut self, event: Event) -> anyhow::Result<Told> {
-        react(&mut self.memory, event, &mut self.out)
-            .context("inner error: the machine refuses to go on")
+        react(&mut self.memory, event, &mut self.out).context(
+            "inner error: the machine refuses to go on",
+        )
     }
 
     // The first `count` numbers of what the machine wrote.

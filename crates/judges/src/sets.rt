@@ -6,7 +6,7 @@ use super::spelled::lists;
 use super::{Judge, verdict};
 
 // Fails what has all of one of some sets. The row has a length, then so many parts, again and again.
-// One row and no slice of slices: sets that are drawn, and transcripts, are written to lent memory as they come.
+// One row and no slice of slices: the laws of sets are about rows, and a transcript in lent memory is read as such a row, too.
 #[derive(Clone, Copy, Debug, PartialEq, Eq)]
 pub struct Sets<'a> {
     pub sets: &'a [u64],

@@ -124,7 +124,7 @@ fn nowhere() -> Search
 }
 
 impl Stage {
-    // Refused where no run leaves such numbers beside the words. A name and no `TryFrom`: `write` is its pair.
+    // Refused where no run leaves such numbers beside the words. Named as `Search::read` is, for the same reason.
     #[tactic(auto, unfolding(crate::specs::Own::stage))]
     fn read(memory: &Memory) -> Result<Stage, Refusal>
         ensures { result ≡ stage memory.now }
@@ -335,7 +335,7 @@ pub fn react(memory: &mut [u64], event: Event, out: &mut [u64]) -> Result<Told, 
     acts(memory, event, out)
 }
 
-// The same for a caller that has only numbers.
+// The same for a caller that has only numbers, as every step was told once: a public promise stays.
 pub fn step(memory: &mut [u64], kind: u64, number: u64, out: &mut [u64]) -> Result<Told, Refusal>
     ensures { StepSays (event kind number) memory.old out.old result memory.new out.new }
 {

@@ -9,10 +9,10 @@ pub(crate) fn random_numbers(random: &mut Random, numbers: &mut [u64], eighths: 
         let drawn = random.draw();
         let verdict = if drawn % 8 < eighths {
             Verdict::Yes
-        } else if drawn / 8 % 2 == 1 {
-            Verdict::Unclear
-        } else {
+        } else if drawn / 8 % 2 == 0 {
             Verdict::No
+        } else {
+            Verdict::Unclear
         };
         verdict.into()
     });
