@@ -4,7 +4,7 @@
 mod options;
 mod record;
 
-use anyhow::{Context, anyhow, bail};
+use anyhow::{Context, bail};
 use bisect::{MOST, Verdict};
 use dialog::lines::{Left, Question};
 use dialog::reading::{self, SizeError};
@@ -59,9 +59,7 @@ impl Talk {
         if let (Some(record), Act::Ask(question)) = (&mut self.record, self.session.act()) {
             record.keep(rt.alloc(), question, verdict)?;
         }
-        self.session
-            .hear(verdict)
-            .map_err(|_| anyhow!("inner error: the reducer awaits no answer"))?;
+        self.session.hear(verdict)?;
         self.answered = self.answered.saturating_add(1);
         Ok(())
     }

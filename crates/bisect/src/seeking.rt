@@ -66,7 +66,7 @@ impl Search {
         }
     }
 
-    // What memory holds. A name and no `TryFrom`: `write` is its pair.
+    // What memory holds. `TryFrom` would be no plainer: it can't say that this is read from a memory, and `write` can be no `From`, as it keeps the rest.
     pub fn read(memory: &[u64]) -> Result<Search, WrongLength>
         ensures { result ≡ ok_or (given (whole memory.now) (sought memory.now)) (record {}) }
     {

@@ -17,7 +17,8 @@ const MOST: u64 = 63;
 pub(crate) struct Code(pub(crate) u64);
 
 impl Code {
-    // All of so many parts, and all of 64 where there are more. `subset` has it for itself, and a public one is no plainer.
+    // All of so many parts, and all of 64 where there are more. No `subset::fill`: that promises members,
+    // and what begins a machine is said by its number, which this promises with no proof file.
     pub(crate) fn all_of(parts: u64) -> Code
         ensures { result.0 ≡ (if nat_lt parts 64 then 2 ^ parts - 1 else 2 ^ 64 - 1) }
     {

@@ -33,6 +33,7 @@ impl Few {
 }
 
 // The subset with a number, in a lent row.
+// One helper for this and `Case::all` would require the room that the length of each array shows.
 fn coded(code: u64, row: &mut [u64; 64]) -> &[u64]
     ensures { result.now ≡ coded code }
 {

@@ -23,7 +23,6 @@ use Rattle.reduce.proofs.Reduces.{sharp}
 use Rattle.judges.specs.Kept.{Kept}
 use Rattle.judges.specs.Driver.{most}
 use Rattle.judges.specs.declared.driver.Ended.{Ended}
-use Rattle.judges.specs.declared.driver.Ended.TheVariants as ended_by
 use Rattle.judges.specs.declared.driver.RunError.{RunError}
 use Rattle.judges.specs.declared.driver.RunError.TheVariants as error
 use Rattle.judges.specs.Whole.{ended_as, run_told}
@@ -141,8 +140,8 @@ many_row n m r out out₁ h t l = (rw (eq-eqb (length m) 72 h, lt-leb n 4096 l) 
 -- what was told last, after so many questions, as the end of a run
 abbrev pub end_of : Told → (asked : ℕ) → Result Ended RunError
 end_of (Ask k) asked = Err error.Unfit
-end_of (Rest k) asked = Ok (ended_by.Left k asked)
-end_of Sound asked = Ok (ended_by.Sound asked)
+end_of (Rest k) asked = Ok (record { left = Some k; asked = asked })
+end_of Sound asked = Ok (record { left = None; asked = asked })
 end_of TooMany asked = Err error.TooMany
 
 -- ---- the stages of a run

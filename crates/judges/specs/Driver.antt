@@ -1,5 +1,5 @@
 -- How a run of the reducer against a judge ends. Assumes nothing: these are definitions.
-use Rattle.std.specs.Prelude.{◌≡◌, ℕ, ◌<◌, ◌≤◌, Bool, true, false, List, length, take, Some, Ok, Err, Result}
+use Rattle.std.specs.Prelude.{◌≡◌, ℕ, ◌<◌, ◌≤◌, Bool, true, false, List, length, take, Some, None, Ok, Err, Result}
 use Rattle.subset.specs.Parts.{all_parts}
 use Rattle.bisect.specs.Judge.{Judge, fails, Monotone}
 use Rattle.bisect.specs.Engine.{Ran}
@@ -7,7 +7,6 @@ use Rattle.reduce.specs.Own.{fault}
 use Rattle.reduce.specs.declared.Refusal.TheVariants.{Unawaited}
 use Rattle.judges.specs.Kept as kept
 use Rattle.judges.specs.declared.driver.Ended.{Ended}
-use Rattle.judges.specs.declared.driver.Ended.TheVariants.{Left, Sound}
 use Rattle.judges.specs.declared.driver.RunError.{RunError}
 use Rattle.judges.specs.declared.driver.RunError.TheVariants.{TooMany, Unfit}
 
@@ -18,7 +17,7 @@ most = 117522446
 -- what a run that kept its promises left is told, and stands in the row
 pub record Leaves (n : ℕ) (f : Judge) (r : Result Ended RunError) (out₁ : List ℕ) : Type 0 where
   pub run : Ran
-  pub told : r ≡ Ok (Left (length run.rest) (length run.asked))
+  pub told : r ≡ Ok (record { left = Some (length run.rest); asked = length run.asked })
   pub row : take (length run.rest) out₁ ≡ run.rest
   pub keeps : kept.Leaves (Monotone f n) n f run
 
@@ -31,7 +30,7 @@ pub record Rests (n : ℕ) (out memory₁ out₁ : List ℕ) : Type 0 where
 -- the end by the number of parts and the judge's meaning
 pub record Ends (n : ℕ) (f : Judge) (out : List ℕ) (r : Result Ended RunError) (memory₁ out₁ : List ℕ) : Type 0 where
   pub many : 4096 < n → r ≡ Err TooMany
-  pub sound : n ≤ 4096 → fails f (all_parts n) ≡ false → r ≡ Ok (Sound 1)
+  pub sound : n ≤ 4096 → fails f (all_parts n) ≡ false → r ≡ Ok (record { left = None; asked = 1 })
   pub left : n ≤ 4096 → fails f (all_parts n) ≡ true → Leaves n f r out₁
   pub rests : Rests n out memory₁ out₁
 

@@ -1,5 +1,5 @@
 -- What the end of a run tells of the reducer's own run, as a whole. Assumes nothing: these are definitions.
-use Rattle.std.specs.Prelude.{◌≡◌, ℕ, Bool, true, false, cond, List, [], length, take, ◌==◌, Ok, Err, Result}
+use Rattle.std.specs.Prelude.{◌≡◌, ℕ, Bool, true, false, cond, List, [], length, take, ◌==◌, Some, None, Ok, Err, Result}
 use Rattle.bisect.specs.Judge.{Judge, Monotone}
 use Rattle.bisect.specs.Engine.{Ran, ran, run_of, told_left, told_sound, told_refused, still_asks}
 use Rattle.reduce.specs.Own.{own}
@@ -8,7 +8,6 @@ use Rattle.reduce.specs.declared.Told.TheVariants as told
 use Rattle.judges.specs.Kept.{Kept}
 use Rattle.judges.specs.Driver.{Rests}
 use Rattle.judges.specs.declared.driver.Ended.{Ended}
-use Rattle.judges.specs.declared.driver.Ended.TheVariants.{Left, Sound}
 use Rattle.judges.specs.declared.driver.RunError.{RunError}
 use Rattle.judges.specs.declared.driver.RunError.TheVariants.{TooMany, Unfit}
 
@@ -31,8 +30,8 @@ run_told r qs out = ran qs (end_told r) (rest_told r out)
 -- a run as the end that tells it: what is left, and how many were asked
 abbrev pub ended_as : Ran → Result Ended RunError
 ended_as R =
-    cond (R.end == told_left) (Ok (Left (length R.rest) (length R.asked)))
-    (cond (R.end == told_sound) (Ok (Sound (length R.asked))) (cond (R.end == told_refused) (Err TooMany) (Err Unfit)))
+    cond (R.end == told_left) (Ok (record { left = Some (length R.rest); asked = length R.asked }))
+    (cond (R.end == told_sound) (Ok (record { left = None; asked = length R.asked })) (cond (R.end == told_refused) (Err TooMany) (Err Unfit)))
 
 -- the end of a run of the reducer from its start: it is told just as it went, and keeps the promises in the judge's meaning; what is left stands in the row
 pub record Tells (n : ℕ) (f : Judge) (out : List ℕ) (r : Result Ended RunError) (memory₁ out₁ : List ℕ) : Type 0 where

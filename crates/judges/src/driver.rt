@@ -8,13 +8,13 @@ ghost use Rattle.judges.specs.declared.driver.RunError.TheVariants.{Unfit};
 use super::Judge;
 use reduce::{Event, Refusal, Told, react};
 
-// How a run ended, and how many questions were asked.
+// How a run ended.
 #[derive(Clone, Copy, Debug, PartialEq, Eq)]
-pub enum Ended {
-    // So many are left, in the lent row.
-    Left { count: u64, asked: u64 },
-    // All together don't fail.
-    Sound { asked: u64 },
+pub struct Ended {
+    // So many are left, in the lent row; none are told of where all together don't fail.
+    pub left: Option<u64>,
+    // So many questions were asked.
+    pub asked: u64,
 }
 
 // Why there was no run.
@@ -51,8 +51,11 @@ pub fn run<J: Judge>(
     loop {
         let verdict = match told {
             Told::Ask(count) => judge.says(&out[..count as usize]),
-            Told::Rest(count) => return Ok(Ended::Left { count, asked }),
-            Told::Sound => return Ok(Ended::Sound { asked }),
+            Told::Rest(count) => return Ok(Ended {
+                left: Some(count),
+                asked,
+            }),
+            Told::Sound => return Ok(Ended { left: None, asked }),
             Told::TooMany => return Err(RunError::TooMany),
         };
         told = react(memory, Event::Said(verdict), out)?;
@@ -70,7 +73,13 @@ mod tests {
         let mut judge = Sets { sets: &[2, 1, 4] };
         let mut out = [7; 4096];
         let ended = run(&mut judge, 6, &mut [5; 72], &mut out);
-        assert_eq!(rt; ended, Ok(Ended::Left { count: 2, asked: 9 }));
+        assert_eq!(rt;
+            ended,
+            Ok(Ended {
+                left: Some(2),
+                asked: 9
+            })
+        );
         assert_eq!(rt; (out[0], out[1]), (1, 4));
     }
 }

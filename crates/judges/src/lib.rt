@@ -1,12 +1,13 @@
 // Judges to try the reducer with, and a driver that counts.
 #![tactic(auto)]
 
-ghost use Rattle.std.specs.Prelude.{◌≡◌, ℕ, List};
+ghost use Rattle.std.specs.Prelude.{◌≡◌, ℕ, List, cond};
 ghost use Rattle.judges.specs.Rule.{RuleTurns};
 ghost use Rattle.judges.specs.Sets.{SetsGrow};
 ghost use Rattle.judges.specs.Spelled.{ListsSpelled, SetsSpelled};
 ghost use Rattle.judges.specs.Table.{OwnPlace};
 
+use bisect::Verdict;
 pub use chained::Chained;
 pub use counted::Counted;
 pub use driver::{Ended, RunError, run};
@@ -34,6 +35,17 @@ pub trait Judge {
     fn says(&mut self, subset: &[u64]) -> u64
         ensures same { meaning self.new ≡ meaning self.old }
         ensures value { result ≡ meaning self.old subset.now };
+}
+
+// What a judge says that can always tell.
+fn verdict(fails: bool) -> u64
+    ensures { result ≡ cond fails 1 0 }
+{
+    if fails {
+        Verdict::Yes.into()
+    } else {
+        Verdict::No.into()
+    }
 }
 
 // Each subset has a place of its own in a table; a row spells its lists one after the other; judging by sets is monotone, and by a rule it is not.

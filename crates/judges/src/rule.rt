@@ -1,7 +1,7 @@
 // A count, and a part that must not be there.
 ghost use Rattle.judges.specs.Rule.{ruled};
 
-use super::Judge;
+use super::{Judge, verdict};
 
 // Fails what has at least so many parts and not the forbidden one.
 #[derive(Clone, Copy, Debug, PartialEq, Eq)]
@@ -14,6 +14,6 @@ impl Judge for Rule {
     ghost meaning = { λ r. ruled r.least r.forbidden };
 
     fn says(&mut self, subset: &[u64]) -> u64 {
-        u64::from(self.least <= subset.len() as u64 && !subset.contains(&self.forbidden))
+        verdict(self.least <= subset.len() as u64 && !subset.contains(&self.forbidden))
     }
 }

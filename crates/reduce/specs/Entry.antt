@@ -1,12 +1,12 @@
 -- How a step is told to the world outside. Assumes nothing: these are definitions.
-use Rattle.std.specs.Prelude.{◌≡◌, ℕ, zero, suc, Bool, true, false, ◌&&◌, List, ◌++◌, length, drop, ◌==◌, Some, None, Option, Ok, Err, Result, nat_le}
+use Rattle.std.specs.Prelude.{◌≡◌, ℕ, zero, suc, Bool, true, false, ◌&&◌, List, ◌++◌, length, drop, ◌==◌, Some, None, Option, Ok, Err, Result, nat_le, codes}
 use Rattle.bisect.specs.Engine.{parts, said, Act, ask, left, sound, refused, Step}
 use Rattle.bisect.specs.Engine as engine
 use Rattle.reduce.specs.Own.{own, fault}
 use Rattle.reduce.specs.declared.Event.{Event}
 use Rattle.reduce.specs.declared.Event.TheVariants.{Parts, Said}
 use Rattle.reduce.specs.declared.Refusal.{Refusal}
-use Rattle.reduce.specs.declared.Refusal.TheVariants.{Unfit}
+use Rattle.reduce.specs.declared.Refusal.TheVariants.{Unfit, Torn, Unawaited}
 use Rattle.reduce.specs.declared.Told.{Told}
 use Rattle.reduce.specs.declared.Told.TheVariants.{Ask, Rest, Sound, TooMany}
 
@@ -63,3 +63,9 @@ event (suc (suc kind)) number = Err Unfit
 abbrev pub StepSays : Result Event Refusal → (memory out : List ℕ) → Result Told Refusal → (memory₁ out₁ : List ℕ) → Type 0
 StepSays (Ok ev) memory out r memory₁ out₁ = Reacts (fits memory out) memory ev out r memory₁ out₁
 StepSays (Err e) memory out r memory₁ out₁ = Refuses e memory out r memory₁ out₁
+
+-- why a step is refused, as it is printed
+abbrev pub reason : Refusal → List ℕ
+reason Unfit = codes "the memory or the row does not fit"
+reason Torn = codes "no run leaves such a memory"
+reason Unawaited = codes "no answer is awaited"

@@ -1,20 +1,22 @@
 // The reducer: one step over 72 lent numbers, and what it promises for every judge.
 #![tactic(auto)]
 
-ghost use Rattle.std.specs.Prelude.{◌≡◌, ◌<◌, ◌≤◌, true, ◌++◌, length, drop, if◌then◌else◌};
+ghost use Rattle.std.specs.Prelude.{◌≡◌, ◌<◌, ◌≤◌, true, ◌++◌, length, drop, Some};
 ghost use Rattle.bisect.specs.Engine.{parts};
 ghost use Rattle.bisect.specs.Promise.{Sharp, Whole};
 ghost use Rattle.bisect.specs.Search.{answered, fresh, heard, pass};
 ghost use Rattle.bisect.specs.Stand.{asked, cut_at, placed, sane, sought};
 ghost use Rattle.subset.specs.Parts.{all_parts};
 ghost use Rattle.subset.specs.Row.{cut_out, members};
-ghost use Rattle.reduce.specs.Entry.{Does, Heard, Reacts, StepSays, event, fault_of, fits};
+ghost use Rattle.reduce.specs.Entry.{Does, Heard, Reacts, StepSays, event, fault_of, fits, reason};
 ghost use Rattle.reduce.specs.Examples.{EachHolds, Examples};
 ghost use Rattle.reduce.specs.Own.{fault, held, moved, nowhere, own, progress, stage, stands, stored};
 ghost use Rattle.reduce.specs.Start.{FromAny, FromCuts, NestedTrial};
 ghost use Rattle.reduce.specs.State.{go_on, less, next, trial};
 
 use bisect::{LENGTH, MOST, Search};
+use std::error::Error;
+use std::fmt;
 
 type Memory = [u64; LENGTH];
 
@@ -72,6 +74,20 @@ pub enum Refusal {
     Unawaited,
 }
 
+impl fmt::Display for Refusal {
+    ghost output = { λ e. Some (reason e) };
+
+    fn fmt<W: fmt::Write>(&self, f: &mut fmt::Formatter<W>) -> fmt::Result {
+        f.write_str(match self {
+            Refusal::Unfit => "the memory or the row does not fit",
+            Refusal::Torn => "no run leaves such a memory",
+            Refusal::Unawaited => "no answer is awaited",
+        })
+    }
+}
+
+impl Error for Refusal {}
+
 // By its kind: 0 tells how many parts there are, 1 what the judge said.
 impl TryFrom<(u64, u64)> for Event {
     type Error = Refusal;
@@ -117,7 +133,7 @@ fn nowhere() -> Search
 }
 
 impl Stage {
-    // Refused where no run leaves such numbers beside the words. A name and no `TryFrom`: `write` is its pair.
+    // Refused where no run leaves such numbers beside the words. Named as `Search::read` is, for the same reason.
     #[tactic(auto, unfolding(crate::specs::Own::stage))]
     fn read(memory: &Memory) -> Result<Stage, Refusal>
         ensures { result ≡ stage memory.now }
@@ -280,16 +296,14 @@ fn begins(memory: &mut Memory, n: u64, out: &mut Row) -> Told
     Told::Ask(told)
 }
 
-// Where the question at the cut fails, keeps only what it asked of.
+// Keeps only what the question at the cut asked of.
 #[tactic(auto, unfolding(bisect::specs::Search::keep))]
-fn keep_asked(memory: &mut Memory, at: Search, fails: bool)
+fn keep_asked(memory: &mut Memory, at: Search)
     requires { sane at (length (held memory.old)) 4096 ≡ true }
-    ensures { held memory.new ≡ (if fails then asked at (held memory.old) else held memory.old) }
+    ensures { held memory.new ≡ asked at (held memory.old) }
 {
-    if fails {
-        let cut = at.cut(count(memory)).unwrap();
-        leave_between(memory, cut, at.row);
-    }
+    let cut = at.cut(count(memory)).unwrap();
+    leave_between(memory, cut, at.row);
 }
 
 // Goes on with a pass.
@@ -298,7 +312,9 @@ fn hears_cut(memory: &mut Memory, size: u64, at: Search, fails: bool, out: &mut 
     ensures { Does (moved size (held memory.old) (go_on (answered (cut_at at (length (held memory.old))) (pass at (held memory.old)) fails))) result memory.new out.old out.new }
 {
     let next = at.hear(count(memory), fails).unwrap();
-    keep_asked(memory, at, fails);
+    if fails {
+        keep_asked(memory, at);
+    }
     seeks(memory, size, next, out)
 }
 
@@ -347,7 +363,7 @@ pub fn react(memory: &mut [u64], event: Event, out: &mut [u64]) -> Result<Told, 
     acts(memory, event, out)
 }
 
-// The same for a caller that has only numbers.
+// The same for a caller that has only numbers, as every step was told once: a public promise stays.
 pub fn step(memory: &mut [u64], kind: u64, number: u64, out: &mut [u64]) -> Result<Told, Refusal>
     ensures { StepSays (event kind number) memory.old out.old result memory.new out.new }
 {

@@ -66,7 +66,8 @@ impl From<Finding> for Wrong {
 }
 
 // Whether failing is known to be monotone: one was told so, or it was tried.
-// The inspector has the same for itself: one public function would promise both and be no plainer.
+// The inspector has the same for itself: each is one line over `is_monotone`, and a public function for both would be that line again.
+// Who calls has `parts` and `told` apart, as `inspect` takes them, so a struct of both would be made for one call each.
 fn is_known<J: Judge>(judge: &mut J, parts: u64, told: bool) -> bool
     ensures same { J.meaning judge.new ≡ J.meaning judge.old }
     ensures known { Decides result (Known told parts (J.meaning judge.old)) }
@@ -130,10 +131,7 @@ impl Desk {
     {
         self.inspected(&mut Machine::new(), judge, parts, told)?;
         let monotone = is_known(judge, parts, told);
-        let (left, asked) = match run(judge, parts, &mut self.memory, &mut self.left)? {
-            Ended::Left { count, asked } => (Some(count), asked),
-            Ended::Sound { asked } => (None, asked),
-        };
+        let Ended { left, asked } = run(judge, parts, &mut self.memory, &mut self.left)?;
         Ok(Shown {
             left,
             asked,

@@ -1,19 +1,23 @@
 // Tables and sets that are drawn.
+use bisect::Verdict;
 use rig::Random;
 use std::alloc::{AllocError, Global};
 
-// Draws a number for each subset: 1, it fails, with a chance of so many eighths; and for half of the others 2, one can't tell. All together fail.
+// Draws a number for each subset: that it fails with a chance of so many eighths, and for half of the others that one can't tell. All together fail.
 pub(crate) fn random_numbers(random: &mut Random, numbers: &mut [u64], eighths: u64) {
     numbers.fill_with(|| {
         let drawn = random.draw();
-        if drawn % 8 < eighths {
-            1
+        let verdict = if drawn % 8 < eighths {
+            Verdict::Yes
+        } else if drawn / 8 % 2 == 0 {
+            Verdict::No
         } else {
-            drawn / 8 % 2 * 2
-        }
+            Verdict::Unclear
+        };
+        verdict.into()
     });
     if let Some(last) = numbers.last_mut() {
-        *last = 1;
+        *last = Verdict::Yes.into();
     }
 }
 

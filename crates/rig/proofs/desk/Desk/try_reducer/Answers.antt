@@ -2,7 +2,7 @@ use Rattle.std.proofs.Common.{arith}
 use Rattle.rig.proofs.Trying.{shows}
 use Rattle.rig.proofs.desk.Desk.try_reducer.Goals as goal
 
-pub returns-in-Left-clause-tried : goal.returns-in-Left-clause-tried
-returns-in-Left-clause-tried g c =
+pub returns-clause-tried : goal.returns-clause-tried
+returns-clause-tried g c =
     shows c.inspected.new.self.memory c.inspected.new.self.left _ _ c.inspected.ensures.same c.is_known-monotone.ensures.same (omega arith) (omega arith)
-    c.in_ok-count.ensures.whole c.in-Left.is c.is_known-monotone.ensures.known
+    c.in_ok-left.ensures.whole c.is_known-monotone.ensures.known
