@@ -18,7 +18,7 @@ run() {
     local input=$1
     shift
     status=0
-    timeout 20 "$ask" "$@" < <(printf "$input") >"$folder/said" 2>"$folder/told" || status=$?
+    timeout 20 "$ask" "$@" < <(printf "$input" 2>/dev/null) >"$folder/said" 2>"$folder/told" || status=$?
     said=$(<"$folder/said")
     told=$(<"$folder/told")
 }
@@ -85,8 +85,8 @@ run '\n'
 expect "an empty line is no number" 1 "" "no number of parts: ''"
 run '' $'\xff'
 expect "an argument that is no text" 1 "" "an argument is no text"
-run '' 6 7
-expect "two arguments" 1 "" "usage: ask"
+run '' 6 "$folder/journal" 7
+expect "three arguments" 1 "" "usage: ask"
 run ''
 expect "no input at all" 1 "" "ended before the number of parts"
 run '6\n'

@@ -13,9 +13,9 @@ use record::Record;
 use session::{Act, Session};
 use std::alloc::Global;
 use std::fmt::Display;
+use std::io;
 use std::io::{BufRead, BufReader, Stdin, Write};
 use std::process::ExitCode;
-use std::io;
 
 const UNDERSTOOD: &str = "an answer is y (yes, it fails), n (no, it does not) or u (unclear)";
 
