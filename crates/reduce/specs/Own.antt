@@ -1,5 +1,5 @@
 -- The machine over its memory of 72 numbers: eight that say where it stands, and the 64 words of the subset it holds. Assumes nothing: these are definitions.
-use Rattle.std.specs.Prelude.{ℕ, Bool, cond, ◌&&◌, List, ◌∷◌, length, take, drop, replicate, ◌==◌, Some, None, Option, Ok, Err, Result, nat_le, nat_lt, slice_index}
+use Rattle.std.specs.Prelude.{ℕ, ◌-◌, Bool, cond, ◌&&◌, List, ◌∷◌, length, take, drop, replicate, ◌==◌, Some, None, Option, Ok, Err, Result, nat_le, nat_lt, slice_index}
 use Rattle.subset.specs.Row.{members, words_of}
 use Rattle.bisect.specs.Engine.{Event, parts, said, Act, refused, Step, Engine}
 use Rattle.bisect.specs.Search.{place, pass}
@@ -7,7 +7,8 @@ use Rattle.bisect.specs.Stand.{sought, sane}
 use Rattle.bisect.specs.declared.Search.{Search}
 use Rattle.reduce.specs.State.{State, idle, first, seek, try, over, calm, many, next, begin, act_of}
 use Rattle.reduce.specs.declared.Refusal.{Refusal}
-use Rattle.reduce.specs.declared.Refusal.TheVariants.{Torn, Unawaited}
+use Rattle.reduce.specs.declared.Progress.{Progress}
+use Rattle.reduce.specs.declared.Refusal.TheVariants.{Unfit, Torn, Unawaited}
 use Rattle.reduce.specs.declared.Stage.{Stage}
 use Rattle.reduce.specs.declared.Stage.TheVariants.{Idle, First, Seek, Trial}
 
@@ -112,3 +113,17 @@ goes m (said v) = faultless (fault m) (moved (slice_index m 1) (held m) (next (s
 
 unfoldable pub own : Engine
 own = record { start = replicate 72 0; step = λ m ev. cond (length m == 72) (goes m ev) (doing m refused) }
+
+-- ---- how far a run has come that awaits an answer: how many parts are still in, and how many of them were found needed
+abbrev pub in_and_needed : ℕ → ℕ → Progress
+in_and_needed k j = record { left = k; needed = j }
+
+abbrev pub progressed : Result Stage Refusal → ℕ → Result Progress Refusal
+progressed (Err e) k = Err e
+progressed (Ok Idle) k = Err Unawaited
+progressed (Ok First) k = Ok (in_and_needed k 0)
+progressed (Ok (Seek s)) k = Ok (in_and_needed k (k - s.row))
+progressed (Ok (Trial i)) k = Ok (in_and_needed k k)
+
+abbrev pub progress : List ℕ → Result Progress Refusal
+progress m = cond (length m == 72) (progressed (stage m) (length (held m))) (Err Unfit)

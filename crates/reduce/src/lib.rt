@@ -10,7 +10,7 @@ ghost use Rattle.subset.specs.Parts.{all_parts};
 ghost use Rattle.subset.specs.Row.{cut_out, members};
 ghost use Rattle.reduce.specs.Entry.{Does, Heard, Reacts, StepSays, event, fault_of, fits};
 ghost use Rattle.reduce.specs.Examples.{EachHolds, Examples};
-ghost use Rattle.reduce.specs.Own.{fault, held, moved, nowhere, own, stage, stands, stored};
+ghost use Rattle.reduce.specs.Own.{fault, held, moved, nowhere, own, progress, stage, stands, stored};
 ghost use Rattle.reduce.specs.Start.{FromAny, FromCuts, NestedTrial};
 ghost use Rattle.reduce.specs.State.{go_on, less, next, trial};
 
@@ -85,6 +85,15 @@ impl TryFrom<(u64, u64)> for Event {
             _ => Err(Refusal::Unfit),
         }
     }
+}
+
+// How far a run has come that awaits an answer.
+#[derive(Clone, Copy, Debug, PartialEq, Eq)]
+pub struct Progress {
+    // So many parts are still in.
+    pub left: u64,
+    // So many of them were found needed, which the last round still has to confirm.
+    pub needed: u64,
 }
 
 // Where the machine stands, beside how many parts there are and the subset that it holds.
@@ -201,6 +210,25 @@ fn leave(memory: &mut Memory, rank: u64)
     ensures { held memory.new ≡ less rank (held memory.old) }
 {
     leave_between(memory, rank, rank + 1);
+}
+
+impl Progress {
+    // Of the run whose memory this is; refused where no answer is awaited.
+    pub fn read(memory: &[u64]) -> Result<Progress, Refusal>
+        ensures { result ≡ progress memory.now }
+    {
+        let Some(memory) = memory.as_array() else {
+            return Err(Refusal::Unfit);
+        };
+        let left = count(memory);
+        let needed = match Stage::read(memory)? {
+            Stage::Idle => return Err(Refusal::Unawaited),
+            Stage::First => 0,
+            Stage::Seek(at) => left - at.row,
+            Stage::Trial(_) => left,
+        };
+        Ok(Progress { left, needed })
+    }
 }
 
 // Asks without the member at an index; past the last, all are needed.
