@@ -1,8 +1,8 @@
 -- How a text is cut into lines.
-use Rattle.std.proofs.Common.{◌≡◌, ◌≢◌, ℕ, suc, ◌+◌, ◌<◌, ◌≤◌, min, true, false, cond, eqb, inl, inr, List, [], ◌∷◌, ◌++◌, length, get_or, take, drop, sym, refl, ap, ◌∙◌, arith, length-take, take-append-drop}
+use Rattle.std.proofs.Common.{◌≡◌, ◌≢◌, ℕ, suc, ◌+◌, ◌-◌, ◌<◌, ◌≤◌, min, true, false, cond, eqb, inl, inr, List, [], ◌∷◌, ◌++◌, length, get_or, take, drop, sym, refl, ap, ◌∙◌, arith, length-take, take-append-drop}
 use Rattle.std.specs.List.{concat, onto_first, IsFirstMatchOrLen}
 use Rattle.std.proofs.lemmas.Bool.{eqb-true, eqb-false, ne_eqb, cases_Bool, cases_lt}
-use Rattle.std.proofs.lemmas.List.{append-nil, append_assoc, drop_more, take_more, take_all, drop_all, take_at, drop_at, get_or-take}
+use Rattle.std.proofs.lemmas.List.{append-nil, append_assoc, drop_more, take_more, take_all, drop_all, take_rest, take_at, drop_at, get_or-take}
 use Rattle.std.proofs.lemmas.List.Elements.{All-cons, All-head, All-tail}
 use Rattle.candidate.specs.Lines.{behind_byte, lines}
 use Rattle.candidate.specs.Laws.{IsPlain, IsEnded, IsUnended, AreLines}
@@ -60,7 +60,7 @@ module _ (bs : List ℕ) (i : ℕ) (first : IsFirstMatchOrLen (λ b. eqb b 10) b
   first_whole : length bs ≤ i → 0 < length bs → lines bs ≡ bs ∷ []
   first_whole h some = lines_plain bs some (rw (take_all i bs h) at plain_before)
 
-pub lines_first : (bs x rest : List ℕ) (i : ℕ) → bs ≡ x ++ rest → length x ≡ min (i + 1) (length bs) → IsFirstMatchOrLen (λ b. eqb b 10) bs i → 0 < length bs → lines bs ≡ x ∷ lines rest
+lines_first : (bs x rest : List ℕ) (i : ℕ) → bs ≡ x ++ rest → length x ≡ min (i + 1) (length bs) → IsFirstMatchOrLen (λ b. eqb b 10) bs i → 0 < length bs → lines bs ≡ x ∷ lines rest
 lines_first bs x rest i cut long first some =
     let front : take (length x) bs ≡ x = rw cut (take_at x rest (length x) refl) in
     let back : drop (length x) bs ≡ rest = rw cut (drop_at x rest (length x) refl) in
@@ -70,6 +70,12 @@ lines_first bs x rest i cut long first some =
       | inr h ↦ let n : length bs ≤ length x = omega arith in
           rw (sym front ∙ take_all _ bs n, sym back ∙ drop_all _ bs n) (first_whole bs i first h some)
     ]
+
+-- the same where what is left is cut from the text
+pub lines_next : (bs all x rest : List ℕ) (i : ℕ) → all ≡ bs → all ≡ x ++ rest → length x ≡ min (i + 1) (length all) → IsFirstMatchOrLen (λ b. eqb b 10) all i → 0 < length all → lines bs ≡ x ∷ lines (take (length bs - length x) (drop (length x) bs))
+lines_next bs all x rest i same cut long first some =
+    let left = take_rest bs (length x) ∙ ap (λ v. drop (length x) v) (sym same ∙ cut) ∙ drop_at x rest _ refl in
+    rw left (rw (← same) (lines_first all x rest i cut long first some))
 
 -- ---- the laws
 concat_onto : (b : ℕ) (ls : List (List ℕ)) → concat (onto_first b ls) ≡ b ∷ concat ls

@@ -1,30 +1,46 @@
 // The lines of a file as the parts to reduce: how many there are, and the text that some of them make.
 #![tactic(auto)]
 
-ghost use Rattle.std.specs.Prelude.{◌≡◌, map, length, IfOk};
+ghost use Rattle.std.specs.Prelude.{◌≡◌, ◌<◌, ◌^◌, map, length, IfOk};
 ghost use Rattle.std.specs.List.{range_with_len};
 ghost use Rattle.candidate.specs.Lines.{has, lines, picked};
 ghost use Rattle.candidate.specs.Laws.{LinesCut, LinesJoin, LinesKnown, PickedLines, PicksAsked};
 
 use std::alloc::{AllocError, Global};
 
-// What is left of a text, line by line.
+// The lines of a text, one by one.
 #[derive(Clone, Copy)]
-struct Lines<'a>(&'a [u8]);
+pub struct Lines<'a> {
+    rest: &'a [u8],
+    // So that they can be counted.
+    pub ghost fits: { length (lines rest.now) < 2 ^ 64 },
+}
+
+impl<'a> Lines<'a> {
+    ghost use Rattle.candidate.specs.Left.{lines_left};
+
+    pub fn of(text: &'a [u8]) -> Lines<'a>
+        ensures { lines_left result ≡ lines text.now }
+    {
+        // There are no more lines than bytes, and no more bytes than a usize can tell.
+        let _size = text.len();
+        Lines { rest: text }
+    }
+}
 
 impl<'a> Iterator for Lines<'a> {
     ghost use Rattle.std.specs.Iterator.{YieldsFirstRef, item_count};
-    ghost use Rattle.candidate.specs.Lines.{lines};
+    ghost use Rattle.candidate.specs.Left.{lines_left};
 
     type Item = &'a [u8];
 
-    ghost next_gives = { YieldsFirstRef (λ s. lines s.0.now) };
+    ghost next_gives = { YieldsFirstRef lines_left };
 
-    ghost remaining = { item_count (λ s. lines s.0.now) };
+    ghost remaining = { item_count lines_left };
 
     fn next(&mut self) -> Option<&'a [u8]> {
-        let line = self.0.split_inclusive(|byte| *byte == b'\n').next()?;
-        self.0 = &self.0[line.len()..];
+        let line = self.rest.split_inclusive(|byte| *byte == b'\n').next()?;
+        self.rest = &self.rest[line.len()..];
         Some(line)
     }
 }
@@ -33,9 +49,7 @@ impl<'a> Iterator for Lines<'a> {
 pub fn count(text: &[u8]) -> usize
     ensures { result ≡ length (lines text.now) }
 {
-    // A text has no more bytes than a usize can tell, and no more lines than bytes.
-    let _size = text.len();
-    Lines(text).count()
+    Lines::of(text).count()
 }
 
 // Which of so many lines stand in the row.
@@ -57,7 +71,7 @@ pub fn candidate(heap: Global, text: &[u8], parts: &[u64]) -> Result<Vec<u8>, Al
 {
     let marks = marks(heap, count(text), parts)?;
     let mut bytes = Vec::new(heap);
-    for (line, mark) in Lines(text).zip(&marks) {
+    for (line, mark) in Lines::of(text).zip(&marks) {
         if *mark {
             bytes.extend_from_slice(line)?;
         }

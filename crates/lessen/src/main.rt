@@ -4,14 +4,16 @@
 mod fault;
 mod files;
 mod paths;
+mod replay;
 
 ghost use Rattle.std.specs.Prelude.{◌≡◌, IfOk};
 ghost use Rattle.lessen.specs.Written.{written};
 
+use candidate::Lines;
 use dialog::lines::{Left, Question};
-use dialog::reading;
 use fault::Fault;
 use paths::Paths;
+use replay::Mishap;
 use session::{Act, Session};
 use std::alloc::{AllocError, Global};
 use std::fmt::Display;
@@ -23,35 +25,29 @@ fn read<'a>(rt: &HostRuntime, path: &'a str) -> Result<Vec<u8>, Fault<'a>> {
     fs::read(rt, path).map_err(|error| Fault::Unread { path, error })
 }
 
-// Goes on after the answer that a line gives.
-fn hear<'a>(
+// Says what is wrong with one of the answers, and in which line.
+fn misheard<'a>(
     heap: Global,
-    session: &mut Session,
     path: &'a str,
-    number: usize,
-    line: &[u8],
-) -> Result<(), Fault<'a>> {
-    let line = line.strip_suffix(b"\n").unwrap_or(line);
-    let Some(verdict) = reading::verdict_in(line) else {
-        let text = String::from_utf8_lossy(heap, line)?;
-        return Err(Fault::NoAnswer { path, number, text });
-    };
-    // All that it refuses is an answer to no question.
-    if session.hear(verdict).is_err() {
-        let text = String::from_utf8_lossy(heap, line)?;
-        return Err(Fault::Unasked { path, number, text });
-    }
-    Ok(())
+    answers: &[u8],
+    mishap: Mishap,
+) -> Result<Fault<'a>, AllocError> {
+    let (Mishap::NoAnswer(place) | Mishap::Unasked(place)) = mishap;
+    let line = Lines::of(answers).nth(place).unwrap_or(&[]);
+    let text = String::from_utf8_lossy(heap, replay::bare(line))?;
+    let number = place.saturating_add(1);
+    Ok(match mishap {
+        Mishap::NoAnswer(_) => Fault::NoAnswer { path, number, text },
+        Mishap::Unasked(_) => Fault::Unasked { path, number, text },
+    })
 }
 
 fn hear_all<'a>(rt: &HostRuntime, session: &mut Session, path: &'a str) -> Result<(), Fault<'a>> {
     let answers = read(rt, path)?;
-    let mut number = 0usize;
-    for line in answers.split_inclusive(|byte| *byte == b'\n') {
-        number = number.saturating_add(1);
-        hear(rt.alloc(), session, path, number, line)?;
+    match replay::hear_all(session, &answers) {
+        Ok(()) => Ok(()),
+        Err(mishap) => Err(misheard(rt.alloc(), path, &answers, mishap)?),
     }
-    Ok(())
 }
 
 // The lines that are asked of or left; where all together don't fail, all of them.
