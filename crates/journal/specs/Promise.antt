@@ -5,7 +5,7 @@ use Rattle.bisect.specs.Engine.{Step}
 use Rattle.bisect.specs.declared.verdict.Verdict.{Verdict}
 use Rattle.session.specs.Session.{begun}
 use Rattle.journal.specs.Line.{heading, heading_in, exchange_line, exchange_read, skipped}
-use Rattle.journal.specs.Replay.{awaited, awaits, cut_off, replayed, told_verdict, whole_lines}
+use Rattle.journal.specs.Replay.{awaited, awaits, cut_off, question_of, replayed, told_verdict, whole_lines}
 use Rattle.journal.specs.declared.line.Fault.TheVariants.{Foreign}
 use Rattle.journal.specs.declared.replay.Replayed.{Replayed}
 
@@ -25,6 +25,10 @@ went (Some ks) s t = t
 unfoldable pub after : Step → List Verdict → Step
 after s [] = s
 after s (v ∷ vs) = went (awaited s) s (after (told_verdict s v) vs)
+
+-- A RUN ALWAYS AWAITS THE ANSWER TO WHAT IT ASKS, so what is recorded is all that it asked
+unfoldable pub AwaitsWhatItAsks : Type 0
+AwaitsWhatItAsks = (n : ℕ) (vs : List Verdict) → awaited (after (begun n) vs) ≡ question_of (after (begun n) vs).act
 
 -- ---- what is written of it
 abbrev pub line : List ℕ → List ℕ
