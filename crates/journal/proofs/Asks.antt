@@ -1,4 +1,4 @@
--- The reducer asks only of parts that are there, whatever it is told.
+-- The reducer asks only of parts that are there, and awaits the answer, whatever it is told.
 use Rattle.std.proofs.Common.{arith, ◌≡◌, ℕ, suc, ◌<◌, ◌==◌, Bool, true, false, cond, ltb, leb, List, [], ◌∷◌, length, get_or, Some, None, Option, ◌∙◌, sym, ap, refl}
 use Rattle.std.specs.List.{list_all}
 use Rattle.std.proofs.lemmas.Bool.{and_from, cond_both, ltb-true}
@@ -13,11 +13,12 @@ use Rattle.bisect.specs.declared.verdict.Verdict.{Verdict}
 use Rattle.bisect.proofs.Cut.{cut_inner}
 use Rattle.bisect.proofs.Keep.{keep_some}
 use Rattle.bisect.proofs.Right.{Ready, heard_ready}
+use Rattle.reduce.specs.Own.{fault}
 use Rattle.reduce.specs.State.{State, idle, first, seek, try, over, calm, many, less, trial, go_on, next, next_by, begin, act_of, act_by}
 use Rattle.reduce.proofs.Stored.{Stands, follows}
 use Rattle.session.specs.Session.{begun}
-use Rattle.journal.specs.Promise.{exchanged, exchanges}
-use Rattle.journal.specs.Replay.{awaited, question_of, told_verdict}
+use Rattle.journal.specs.Promise.{AwaitsWhatItAsks, after, exchanged, exchanges, went}
+use Rattle.journal.specs.Replay.{awaited, faultless, question_of, told_verdict}
 
 -- ---- over lists: what is held is some of the parts
 module _ (n : ℕ) where
@@ -95,12 +96,29 @@ at_told n t ks v at asked =
       holds = holds_next n at.state (number_of v == 1) at.holds;
     }
 
-awaited_asked : (b : Bool) (a : Act) (ks : List ℕ) → cond b (question_of a) None ≡ Some ks → a ≡ ask ks
-awaited_asked true (ask js) ks e = let same : js ≡ ks = cc in ap ask same
-awaited_asked true (left js) ks e = absurd (cc)
-awaited_asked true sound ks e = absurd (cc)
-awaited_asked true refused ks e = absurd (cc)
-awaited_asked false a ks e = absurd (cc)
+-- where it asks, no memory is at fault
+awaits_asked : (n : ℕ) (t : Step) → At n t → awaited t ≡ question_of t.act
+awaits_asked n t at = by t.act refl
+  where
+    none : (b : Bool) → ◌≡◌ {A = Option (List ℕ)} (cond b None None) None
+    none true = refl
+    none false = refl
+
+    by : (a : Act) → t.act ≡ a → cond (faultless (fault t.memory)) (question_of a) None ≡ question_of a
+    by (ask ks) asked = rw ((at.stands (ap asking (sym at.act ∙ asked))).1) refl
+    by (left ks) asked = none (faultless (fault t.memory))
+    by sound asked = none (faultless (fault t.memory))
+    by refused asked = none (faultless (fault t.memory))
+
+-- what is awaited is asked
+asked_so : (a : Act) (ks : List ℕ) → question_of a ≡ Some ks → a ≡ ask ks
+asked_so (ask js) ks e = let same : js ≡ ks = cc in ap ask same
+asked_so (left js) ks e = absurd (cc)
+asked_so sound ks e = absurd (cc)
+asked_so refused ks e = absurd (cc)
+
+act_of_awaited : (n : ℕ) (t : Step) (ks : List ℕ) → At n t → awaited t ≡ Some ks → t.act ≡ ask ks
+act_of_awaited n t ks at awaits = asked_so t.act ks (sym (awaits_asked n t at) ∙ awaits)
 
 exchanges_at : (n : ℕ) (t : Step) (vs : List Verdict) → At n t → list_all (λ e. some_of n e.0) (exchanges t vs) ≡ true
 unfolding exchanges
@@ -109,10 +127,23 @@ exchanges_at n t (v ∷ vs) at = by (awaited t) refl (exchanges_at n (told_verdi
   where
     by : (o : Option (List ℕ)) → awaited t ≡ o → (At n (told_verdict t v) → list_all (λ e. some_of n e.0) (exchanges (told_verdict t v) vs) ≡ true)
         → list_all (λ e. some_of n e.0) (exchanged o v (exchanges (told_verdict t v) vs)) ≡ true
-    by None asked rest = refl
-    by (Some ks) asked rest =
-        let act = awaited_asked _ t.act ks asked in
+    by None awaits rest = refl
+    by (Some ks) awaits rest =
+        let act = act_of_awaited n t ks at awaits in
         and_from _ _ (asks_some n at.state ks (sym at.act ∙ act) at.holds) (rest (at_told n t ks v at act))
+
+at_after : (n : ℕ) (t : Step) (vs : List Verdict) → At n t → At n (after t vs)
+unfolding after
+at_after n t [] at = at
+at_after n t (v ∷ vs) at = by (awaited t) refl (at_after n (told_verdict t v) vs)
+  where
+    by : (o : Option (List ℕ)) → awaited t ≡ o → (At n (told_verdict t v) → At n (after (told_verdict t v) vs)) → At n (went o t (after (told_verdict t v) vs))
+    by None awaits rest = at
+    by (Some ks) awaits rest = rest (at_told n t ks v at (act_of_awaited n t ks at awaits))
 
 pub exchanges_some : (n : ℕ) (vs : List Verdict) → list_all (λ e. some_of n e.0) (exchanges (begun n) vs) ≡ true
 exchanges_some n vs = exchanges_at n (begun n) vs (at_begun n)
+
+pub awaits_what_it_asks : AwaitsWhatItAsks
+unfolding AwaitsWhatItAsks
+awaits_what_it_asks n vs = awaits_asked n (after (begun n) vs) (at_after n (begun n) vs (at_begun n))

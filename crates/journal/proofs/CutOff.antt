@@ -1,49 +1,37 @@
 -- What was cut off counts as not written.
-use Rattle.std.proofs.Common.{◌≡◌, ℕ, ◌+◌, ◌-◌, true, false, List, [], ◌∷◌, ◌++◌, length, All, ◌∙◌, sym, ap, refl}
-use Rattle.std.specs.List.{prefix_len}
-use Rattle.std.proofs.lemmas.Bool.{not-true}
-use Rattle.std.proofs.lemmas.List.{append_assoc, reverse-append, take-append-drop}
-use Rattle.std.proofs.lemmas.List.Elements.{All-append, All-cons, All-nil, All-weaker}
-use Rattle.std.proofs.lemmas.List.Splits.{slice_split_at}
+use Rattle.std.proofs.Common.{◌≡◌, ℕ, true, false, List, [], ◌∷◌, ◌++◌, ◌==◌, ◌∙◌, sym, ap, refl}
+use Rattle.std.proofs.lemmas.Grind.{flat_map-append}
+use Rattle.std.proofs.lemmas.List.{append-nil, append_assoc, reverse-append}
+use Rattle.std.proofs.lemmas.List.Elements.{All-append, All-push}
 use Rattle.journal.specs.Line.{skipped}
 use Rattle.journal.specs.Promise.{CutOffIsNothing}
-use Rattle.journal.specs.Replay.{cut_off, read_lines, taken_up, torn, whole_lines}
-use Rattle.journal.proofs.Pieces.{begins, cut_off-whole_lines, inside, inside-torn, newline, pieces, read_line-skipped, read_lines-append, read_lines-whole, replayed-whole}
+use Rattle.journal.specs.Replay.{read_lines, replayed, taken_up, whole_lines}
+use Rattle.journal.proofs.Lists.{Lacks, Lacks-from_any}
+use Rattle.journal.proofs.Pieces.{lines_in, read_lines-skipped, replayed-text, text, whole_lines-text}
 
 -- a blank and the sign
-abbrev sign : List ℕ
-sign = 32 ∷ 35 ∷ []
+abbrev signed : List ℕ → List ℕ
+signed bs = bs ++ (32 ∷ 35 ∷ [])
 
-skipped-sign : (bs : List ℕ) → skipped (bs ++ sign) ≡ true
-skipped-sign bs = rw (reverse-append bs sign) refl
+skipped-signed : (bs : List ℕ) → skipped (signed bs) ≡ true
+skipped-signed bs = rw (reverse-append bs (32 ∷ 35 ∷ [])) refl
 
-cut_off-signed : (bs : List ℕ) → cut_off (bs ++ (32 ∷ 35 ∷ 10 ∷ [])) ≡ 0
-cut_off-signed bs = ap (prefix_len inside) (reverse-append bs (32 ∷ 35 ∷ 10 ∷ []))
+Lacks-signed : (bs : List ℕ) → Lacks 10 bs → Lacks 10 (signed bs)
+Lacks-signed bs none = All-append (λ b. (b == 10) ≡ false) bs (32 ∷ 35 ∷ []) none (Lacks-from_any 10 (32 ∷ 35 ∷ []) refl)
 
-pieces-torn : (bs : List ℕ) → pieces (torn bs ++ (32 ∷ 35 ∷ 10 ∷ [])) ≡ (torn bs ++ sign) ∷ [] ∷ []
-pieces-torn bs =
-    let P : ℕ → Type 0 = λ b. newline b ≡ false in
-    let lacks : All P (torn bs) = All-weaker (λ b. inside b ≡ true) P (λ b no. not-true (newline b) no) (torn bs) (inside-torn bs) in
-    ap pieces (sym (append_assoc (torn bs) sign (10 ∷ [])))
-    ∙ slice_split_at newline (torn bs ++ sign) 10 [] (All-append P (torn bs) sign lacks (All-cons P 32 (35 ∷ []) refl (All-cons P 35 [] refl (All-nil P)))) refl
-
--- the cut-off end with the sign is skipped
-read_lines-torn : (bs : List ℕ) → read_lines (pieces (bs ++ (32 ∷ 35 ∷ 10 ∷ []))) ≡ read_lines (pieces (whole_lines bs))
-read_lines-torn bs =
-    let ws = whole_lines bs in
-    let whole = cut_off-whole_lines bs in
-    let ls = (begins ws whole).0 in
-    let end : List ℕ = 32 ∷ 35 ∷ 10 ∷ [] in
-    let l = torn bs ++ sign in
-    let split : pieces (bs ++ end) ≡ ls ++ (l ∷ [] ∷ []) =
-    ap (λ cs. pieces (cs ++ end)) (sym (take-append-drop (length bs - cut_off bs) bs)) ∙ ap pieces (append_assoc ws (torn bs) end) ∙ (begins ws whole).1 (torn bs ++ end)
-    ∙ ap (λ ms. ls ++ ms) (pieces-torn bs) in
-    ap read_lines split ∙ read_lines-append ls (l ∷ [] ∷ [])
-    ∙ read_line-skipped _ (length ls + 1) [] refl ∙ read_line-skipped (read_lines ls) (length ls) l (skipped-sign (torn bs)) ∙ sym (read_lines-whole ws whole)
+text-signed : (ls : List (List ℕ)) (bs : List ℕ) → (text ls ++ bs) ++ (32 ∷ 35 ∷ 10 ∷ []) ≡ text (ls ++ (signed bs ∷ [])) ++ []
+text-signed ls bs = simp (flat_map-append, append_assoc, append-nil)
 
 pub cut_off_is_nothing : CutOffIsNothing
 unfolding CutOffIsNothing
-cut_off_is_nothing bs = (
-  replayed-whole (bs ++ (32 ∷ 35 ∷ 10 ∷ [])) (cut_off-signed bs) ∙ ap taken_up (read_lines-torn bs),
-  replayed-whole (whole_lines bs) (cut_off-whole_lines bs),
-)
+cut_off_is_nothing bs =
+    let x = lines_in bs in
+    let ls = x.lines in
+    let l = signed x.rest in
+    let none : Lacks 10 [] = Lacks-from_any 10 [] refl in
+    let here : replayed bs ≡ taken_up (read_lines ls) = ap replayed x.joined ∙ replayed-text ls x.rest x.each x.none in (
+      ap (λ cs. replayed (cs ++ (32 ∷ 35 ∷ 10 ∷ []))) x.joined ∙ ap replayed (text-signed ls x.rest)
+          ∙ replayed-text (ls ++ (l ∷ [])) [] (All-push (Lacks 10) ls l x.each (Lacks-signed x.rest x.none)) none
+          ∙ ap taken_up (read_lines-skipped ls l (skipped-signed x.rest)) ∙ sym here,
+      ap replayed (ap whole_lines x.joined ∙ whole_lines-text ls x.rest x.none ∙ sym (append-nil (text ls))) ∙ replayed-text ls [] x.each none ∙ sym here,
+    )

@@ -1,58 +1,56 @@
--- The first question that is not its own is named by its line.
-use Rattle.std.proofs.Common.{◌≡◌, ℕ, ◌+◌, true, false, List, [], ◌∷◌, ◌++◌, length, fold, All, Some, None, Option, Ok, Err, Result, ◌∙◌, sym, ap, refl}
-use Rattle.std.specs.List.{enumerate_from, list_all, prefix_len}
-use Rattle.std.proofs.lemmas.Bool.{not-true}
-use Rattle.std.proofs.lemmas.List.{append_assoc, length_push, reverse-append}
-use Rattle.std.proofs.lemmas.List.Elements.{All-weaker}
+-- The first line that is at fault is named, with its fault.
+use Rattle.std.proofs.Common.{◌≡◌, ℕ, ◌+◌, false, List, [], ◌∷◌, ◌++◌, length, fold, All, Some, None, Option, Ok, Err, Result, ◌∙◌, sym, ap, refl}
+use Rattle.std.specs.List.{enumerate_from}
+use Rattle.std.proofs.lemmas.Bool.{cond-false}
+use Rattle.std.proofs.lemmas.Grind.{flat_map-append}
+use Rattle.std.proofs.lemmas.List.{append-nil, append_assoc, length_push, nil_from_length}
+use Rattle.std.proofs.lemmas.List.Elements.{All-append, All-cons}
 use Rattle.std.proofs.lemmas.List.Folds.{fold_stays}
-use Rattle.std.proofs.lemmas.List.Splits.{slice_split_at}
-use Rattle.std.proofs.lemmas.List.Sums.{AllPass-from_list_all}
-use Rattle.bisect.specs.declared.verdict.Verdict.{Verdict}
-use Rattle.journal.specs.Line.{exchange_read, skipped}
+use Rattle.journal.specs.Line.{skipped}
 use Rattle.journal.specs.Promise.{NamesTheFirst, line}
-use Rattle.journal.specs.Replay.{awaits, cut_off, read_line, read_lines, taken_up, whole_lines}
-use Rattle.journal.specs.declared.line.Fault.TheVariants.{Foreign}
+use Rattle.journal.specs.Replay.{at_line, by_line, cut_off, read_line, read_lines, replayed, taken_up}
+use Rattle.journal.specs.declared.line.Fault.{Fault}
 use Rattle.journal.specs.declared.replay.Broken.{Broken}
 use Rattle.journal.specs.declared.replay.Replayed.{Replayed}
-use Rattle.journal.proofs.Pieces.{begins, inside, newline, pieces, pieces-whole, read_lines-append, read_lines-whole, replayed-whole, whole_lines-append}
+use Rattle.journal.proofs.Lists.{Lacks, Lacks-from_any}
+use Rattle.journal.proofs.Pieces.{Lines, cut_off-text, lines_in, pieces, pieces-text, read_lines-append, replayed-text, text}
 
-abbrev foreign_at : ℕ → Result (Option Replayed) Broken
-foreign_at number = Err (record { line = number; fault = Foreign })
+abbrev broken_at : ℕ → Fault → Result (Option Replayed) Broken
+broken_at number e = Err (record { line = number; fault = e })
 
 taken_up-some : (r : Result (Option Replayed) Broken) (j : Replayed) → taken_up r ≡ Ok j → r ≡ Ok (Some j)
 taken_up-some (Err b) j e = cc
 taken_up-some (Ok None) j e = cc
 taken_up-some (Ok (Some k)) j e = cc
 
-cut_off-line : (l : List ℕ) → cut_off (line l) ≡ 0
-cut_off-line l = ap (prefix_len inside) (reverse-append l (10 ∷ []))
-
-pieces-line : (l rest : List ℕ) → list_all inside l ≡ true → pieces (line l ++ rest) ≡ l ∷ pieces rest
-pieces-line l rest one =
-    let lacks : All (λ b. newline b ≡ false) l = All-weaker (λ b. inside b ≡ true) (λ b. newline b ≡ false) (λ b no. not-true (newline b) no) l (AllPass-from_list_all inside l one) in
-    ap pieces (append_assoc l (10 ∷ []) rest) ∙ slice_split_at newline l 10 rest lacks refl
-
-read_line-foreign : (j : Replayed) (i : ℕ) (l ks : List ℕ) (v : Verdict) → skipped l ≡ false → exchange_read j.parts l ≡ Ok (ks, v) → awaits j.session ks ≡ false
-    → read_line (Ok (Some j)) (i, l) ≡ foreign_at (i + 1)
-read_line-foreign j i l ks v read exchange other = rw (read, exchange, other) refl
-
 -- whatever lines follow
-read_lines-foreign : (j : Replayed) (ls : List (List ℕ)) (l ks : List ℕ) (v : Verdict) (ms : List (List ℕ)) → read_lines ls ≡ Ok (Some j) → skipped l ≡ false → exchange_read j.parts l ≡ Ok (ks, v)
-    → awaits j.session ks ≡ false → read_lines (ls ++ l ∷ ms) ≡ foreign_at (length ls + 1)
-read_lines-foreign j ls l ks v ms so_far read exchange other =
+read_lines-broken : (j : Replayed) (ls : List (List ℕ)) (l : List ℕ) (ms : List (List ℕ)) (e : Fault) → read_lines ls ≡ Ok (Some j) → skipped l ≡ false → by_line (Some j) l ≡ Err e
+    → read_lines (ls ++ l ∷ ms) ≡ broken_at (length ls + 1) e
+read_lines-broken j ls l ms e so_far read bad =
     let rest = enumerate_from (length ls + 1) ms in
+    let broken : read_line (Ok (Some j)) (length ls, l) ≡ broken_at (length ls + 1) e = cond-false _ _ _ read ∙ ap (at_line (length ls + 1)) bad in
     read_lines-append ls (l ∷ ms) ∙ ap (λ r. fold read_line (read_line r (length ls, l)) rest) so_far
-    ∙ ap (λ r. fold read_line r rest) (read_line-foreign j (length ls) l ks v read exchange other) ∙ fold_stays read_line (foreign_at (length ls + 1)) (λ x. refl) rest
+    ∙ ap (λ r. fold read_line r rest) broken ∙ fold_stays read_line (broken_at (length ls + 1) e) (λ x. refl) rest
+
+-- a text that ends with a newline
+whole_text : (bs : List ℕ) (x : Lines bs) → cut_off bs ≡ 0 → bs ≡ text x.lines
+whole_text bs x whole =
+    let empty : length x.rest ≡ 0 = sym (cut_off-text x.lines x.rest x.none) ∙ sym (ap cut_off x.joined) ∙ whole in
+    x.joined ∙ ap (λ cs. text x.lines ++ cs) (nil_from_length x.rest empty) ∙ append-nil (text x.lines)
+
+text-line : (ls : List (List ℕ)) (l : List ℕ) (ms : List (List ℕ)) (bs : List ℕ) → text ls ++ (line l ++ (text ms ++ bs)) ≡ text (ls ++ l ∷ ms) ++ bs
+text-line ls l ms bs = simp (flat_map-append, append_assoc)
 
 pub names_the_first : NamesTheFirst
 unfolding NamesTheFirst
-names_the_first bs j l more ks v whole stood one read exchange other =
-    let ls = (begins bs whole).0 in
-    let rest = whole_lines more in
-    let so_far : read_lines ls ≡ Ok (Some j) = sym (read_lines-whole bs whole) ∙ taken_up-some (read_lines (pieces bs)) j (sym (replayed-whole bs whole) ∙ stood) in
-    let written : whole_lines (bs ++ (line l ++ more)) ≡ bs ++ (line l ++ rest) =
-    whole_lines-append bs (line l ++ more) whole ∙ ap (λ cs. bs ++ cs) (whole_lines-append (line l) more (cut_off-line l)) in
-    let split : pieces (bs ++ (line l ++ rest)) ≡ ls ++ l ∷ pieces rest = (begins bs whole).1 (line l ++ rest) ∙ ap (λ ms. ls ++ ms) (pieces-line l rest one) in
-    let number : length ls + 1 ≡ length (pieces bs) = sym (ap length (pieces-whole bs whole) ∙ length_push ls []) in
-    ap (λ cs. taken_up (read_lines (pieces cs))) written ∙ ap (λ ms. taken_up (read_lines ms)) split
-    ∙ ap taken_up (read_lines-foreign j ls l ks v (pieces rest) so_far read exchange other ∙ ap foreign_at number)
+names_the_first bs j l more e whole stood one bad =
+    let x = lines_in bs in
+    let y = lines_in more in
+    let ls = x.lines in
+    let before = whole_text bs x whole in
+    let so_far : read_lines ls ≡ Ok (Some j) = taken_up-some (read_lines ls) j (sym (replayed-text ls x.rest x.each x.none) ∙ sym (ap replayed x.joined) ∙ stood) in
+    let each : All (Lacks 10) (ls ++ l ∷ y.lines) = All-append (Lacks 10) ls (l ∷ y.lines) x.each (All-cons (Lacks 10) l y.lines (Lacks-from_any 10 l one.0) y.each) in
+    let number : length ls + 1 ≡ length (pieces bs) = sym (ap (λ cs. length (pieces cs)) before ∙ ap length (pieces-text ls x.each) ∙ length_push ls []) in
+    ap (λ cs. replayed (cs ++ (line l ++ more))) before ∙ ap (λ cs. replayed (text ls ++ (line l ++ cs))) y.joined ∙ ap replayed (text-line ls l y.lines y.rest)
+    ∙ replayed-text (ls ++ l ∷ y.lines) y.rest each y.none
+    ∙ ap taken_up (read_lines-broken j ls l y.lines e so_far one.1 bad ∙ ap (λ k. broken_at k e) number)

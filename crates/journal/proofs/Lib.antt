@@ -1,3 +1,4 @@
+mod Lists
 mod LineNumerals
 mod LineBack
 mod Own

@@ -4,10 +4,10 @@ use Rattle.std.specs.Char.{is_ascii_digit}
 use Rattle.std.specs.List.{join_by, list_all, position_or_len, slice_split}
 use Rattle.std.specs.Result.{result_ok}
 use Rattle.std.specs.Option.{option_map}
-use Rattle.std.proofs.lemmas.Bool.{and_parts, cond-true, cond-false, ltb-true, lt-ltb, lt-leb, ne_eqb, not_from_false}
+use Rattle.std.proofs.lemmas.Bool.{and_parts, cond-false, ltb-true, lt-ltb, lt-leb, ne_eqb, not_from_false}
 use Rattle.std.proofs.lemmas.Fmt.{decimal_nonempty}
 use Rattle.std.proofs.lemmas.List.{append-nil, append_assoc, drop_at, get_or_append_left, get_or_at, length-append, length_push, reverse-append, take_at}
-use Rattle.std.proofs.lemmas.List.Elements.{All-append, All-cons, All-head, All-nil, All-tail, All-weaker}
+use Rattle.std.proofs.lemmas.List.Elements.{All-append, All-cons, All-map, All-head, All-nil, All-tail, All-weaker}
 use Rattle.std.proofs.lemmas.List.Folds.{list_any_none}
 use Rattle.std.proofs.lemmas.List.Splits.{slice_split_at, slice_split_none}
 use Rattle.std.proofs.lemmas.List.Sums.{position_or_len_is}
@@ -17,14 +17,12 @@ use Rattle.dialog.specs.Lines.{behind_blanks, question_line}
 use Rattle.dialog.specs.Reading.{line_verdict}
 use Rattle.subset.specs.Parts.{rising, some_of}
 use Rattle.journal.specs.Line.{ReadsBack, and_word, checked, exchange_line, exchange_read, heading_words, letter, numbers, skipped, words}
+use Rattle.journal.proofs.Lists.{Lacks, Lacks-from_any, filter_all}
 use Rattle.journal.proofs.LineNumerals.{digits_only, other_byte, skipped-digits, text_size-decimal}
 
 -- ---- which bytes are not there
 abbrev Small : List ℕ → Type 0
 Small ks = All (λ k. k < 2 ^ 64) ks
-
-abbrev Lacks : ℕ → List ℕ → Type 0
-Lacks c bs = All (λ b. (b == c) ≡ false) bs
 
 Lacks-decimal : (c n : ℕ) → is_ascii_digit c ≡ false → n < 2 ^ 64 → Lacks c (decimal n)
 Lacks-decimal c n other small = All-weaker _ _ (λ b digit. other_byte c b other digit) (decimal n) (digits_only n small)
@@ -42,9 +40,7 @@ Lacks-behind c (k ∷ ks) blank other small =
 
 Lacks-joined : (c : ℕ) (ks : List ℕ) → (32 == c) ≡ false → is_ascii_digit c ≡ false → Small ks → Lacks c (joined ks)
 Lacks-joined c [] blank other small = All-nil (λ b. (b == c) ≡ false)
-Lacks-joined c (k ∷ ks) blank other small =
-    All-append (λ b. (b == c) ≡ false) (decimal k) (behind_blanks ks) (Lacks-decimal c k other (All-head (λ j. j < 2 ^ 64) k ks small))
-    (Lacks-behind c ks blank other (All-tail (λ j. j < 2 ^ 64) k ks small))
+Lacks-joined c (k ∷ ks) blank other small = All-tail (λ b. (b == c) ≡ false) 32 (joined (k ∷ ks)) (Lacks-behind c (k ∷ ks) blank other small)
 
 -- ---- the numbers of a question
 slice_split-joined : (k : ℕ) (ks : List ℕ) → Small (k ∷ ks) → slice_split (λ b. b == 32) (joined (k ∷ ks)) ≡ map decimal (k ∷ ks)
@@ -54,16 +50,14 @@ slice_split-joined k (j ∷ ks) small =
     slice_split_at _ (decimal k) 32 (joined (j ∷ ks)) (Lacks-decimal 32 k refl (All-head (λ i. i < 2 ^ 64) k (j ∷ ks) small)) refl
     ∙ ap (λ ws. decimal k ∷ ws) (slice_split-joined j ks (All-tail (λ i. i < 2 ^ 64) k (j ∷ ks) small))
 
-filter-decimal : (ks : List ℕ) → Small ks → filter (λ w. not (length w == 0)) (map decimal ks) ≡ map decimal ks
-filter-decimal [] small = refl
-filter-decimal (k ∷ ks) small =
-    let some = decimal_nonempty k (All-head (λ j. j < 2 ^ 64) k ks small) in
-    cond-true _ _ _ (not_from_false _ (ne_eqb (length (decimal k)) 0 (λ e. omega arith)))
-    ∙ ap (λ ws. decimal k ∷ ws) (filter-decimal ks (All-tail (λ j. j < 2 ^ 64) k ks small))
+is_word : (k : ℕ) → k < 2 ^ 64 → not (length (decimal k) == 0) ≡ true
+is_word k small = let some = decimal_nonempty k small in not_from_false _ (ne_eqb (length (decimal k)) 0 (λ e. omega arith))
 
 words-joined : (ks : List ℕ) → Small ks → words (joined ks) ≡ map decimal ks
 words-joined [] small = refl
-words-joined (k ∷ ks) small = ap (filter (λ w. not (length w == 0))) (slice_split-joined k ks small) ∙ filter-decimal (k ∷ ks) small
+words-joined (k ∷ ks) small =
+    let kept : List ℕ → Bool = λ w. not (length w == 0) in
+    ap (filter kept) (slice_split-joined k ks small) ∙ filter_all kept (map decimal (k ∷ ks)) (All-map (λ w. kept w ≡ true) decimal (k ∷ ks) (All-weaker _ _ is_word (k ∷ ks) small))
 
 fold-decimal : (js ks : List ℕ) → Small ks → fold and_word (Some js) (map decimal ks) ≡ Some (js ++ ks)
 fold-decimal js [] small = ap (λ l. Some l) (sym (append-nil js))
@@ -120,16 +114,15 @@ skipped-letter bs Yes = rw (reverse-append bs) refl
 skipped-letter bs No = rw (reverse-append bs) refl
 skipped-letter bs Unclear = rw (reverse-append bs) refl
 
-no_newline : (v : Verdict) → (letter v == 10) ≡ false
-no_newline Yes = refl
-no_newline No = refl
-no_newline Unclear = refl
+Lacks-verdict : (v : Verdict) → Lacks 10 (32 ∷ letter v ∷ [])
+Lacks-verdict Yes = Lacks-from_any 10 (32 ∷ 121 ∷ []) refl
+Lacks-verdict No = Lacks-from_any 10 (32 ∷ 110 ∷ []) refl
+Lacks-verdict Unclear = Lacks-from_any 10 (32 ∷ 117 ∷ []) refl
 
 Lacks-exchange : (ks : List ℕ) (v : Verdict) → Small ks → Lacks 10 (exchange_line ks v)
 Lacks-exchange ks v small =
     let P : ℕ → Type 0 = λ b. (b == 10) ≡ false in
-    All-append P (question_line ks) (32 ∷ letter v ∷ []) (All-append P (joined ks) (63 ∷ []) (Lacks-joined 10 ks refl refl small) (All-cons P 63 [] refl (All-nil P)))
-    (All-cons P 32 (letter v ∷ []) refl (All-cons P (letter v) [] (no_newline v) (All-nil P)))
+    All-append P (question_line ks) (32 ∷ letter v ∷ []) (All-append P (joined ks) (63 ∷ []) (Lacks-joined 10 ks refl refl small) (Lacks-from_any 10 (63 ∷ []) refl)) (Lacks-verdict v)
 
 pub reads_back : ReadsBack
 unfolding ReadsBack

@@ -1,124 +1,105 @@
--- The lines of a text that goes on, and how they are read.
-use Rattle.std.proofs.Common.{arith, ◌≡◌, ℕ, zero, suc, ◌+◌, ◌-◌, ◌<◌, ◌≤◌, Bool, true, false, cond, not, List, [], ◌∷◌, ◌++◌, length, take, reverse, fold, get_or, All, None, Option, Ok, Err, Result, ◌==◌, ◌∙◌, sym, ap, subst, refl}
-use Rattle.std.specs.List.{enumerate_from, onto_first, prefix_len, slice_split}
-use Rattle.std.proofs.lemmas.Bool.{cond-true, eqb-true}
-use Rattle.std.proofs.lemmas.List.{append-nil, append_assoc, get_or-drop, get_or-reverse, length-append, length-drop, length-reverse, reverse-append, reverse-reverse, take_all}
+-- A text as its lines, and how they are read.
+use Rattle.std.proofs.Common.{arith, ◌≡◌, ℕ, ◌+◌, Bool, true, false, cond, not, List, [], ◌∷◌, ◌++◌, length, reverse, fold, All, None, Option, Ok, Err, Result, ◌==◌, ◌∙◌, ap, refl}
+use Rattle.std.specs.List.{enumerate_from, flat_map, prefix_len, slice_split}
+use Rattle.std.proofs.lemmas.Bool.{cond-true, eqb-true, not_from_false}
+use Rattle.std.proofs.lemmas.List.{append_assoc, length-append, reverse-append, take_at}
+use Rattle.std.proofs.lemmas.List.Elements.{All-cons, All-head, All-nil, All-tail}
 use Rattle.std.proofs.lemmas.List.Folds.{prefix_len-append}
-use Rattle.std.proofs.lemmas.List.Splits.{length-slice_split}
-use Rattle.std.proofs.lemmas.List.Sums.{fold-append, prefix_len_passes, prefix_len_stops, suffix_len-le-length, suffix_len-take_no}
+use Rattle.std.proofs.lemmas.List.Splits.{slice_split_at}
+use Rattle.std.proofs.lemmas.List.Sums.{fold-append, suffix_len_is}
 use Rattle.journal.specs.Line.{skipped}
-use Rattle.journal.specs.Replay.{cut_off, read_line, read_lines, replayed, taken_up, torn, whole_lines}
+use Rattle.journal.specs.Promise.{line}
+use Rattle.journal.specs.Replay.{cut_off, read_line, read_lines, replayed, taken_up, whole_lines}
 use Rattle.journal.specs.declared.replay.Broken.{Broken}
 use Rattle.journal.specs.declared.replay.Replayed.{Replayed}
+use Rattle.journal.proofs.Lists.{Lacks, enumerate_from-append}
 
--- ---- the bytes that end a line, and those within one
-abbrev pub newline : ℕ → Bool
-newline b = b == 10
-
-abbrev pub inside : ℕ → Bool
+abbrev inside : ℕ → Bool
 inside b = not (b == 10)
 
 abbrev pub pieces : List ℕ → List (List ℕ)
-pieces bs = slice_split newline bs
+pieces bs = slice_split (λ b. b == 10) bs
 
--- ---- pieces of a text that goes on behind a newline
-onto_first-append : (b : ℕ) (ls ms : List (List ℕ)) → 0 < length ls → onto_first b (ls ++ ms) ≡ onto_first b ls ++ ms
-onto_first-append b [] ms some = absurd (omega arith)
-onto_first-append b (l ∷ ls) ms some = refl
+abbrev pub text : List (List ℕ) → List ℕ
+text ls = flat_map line ls
 
-pieces-behind : (bs : List ℕ) (b : ℕ) (cs : List ℕ) → newline b ≡ true → pieces (bs ++ b ∷ cs) ≡ pieces bs ++ pieces cs
-pieces-behind [] b cs ends = cond-true _ _ _ ends
-pieces-behind (a ∷ bs) b cs ends = by (pieces-behind bs b cs ends) (newline a)
+-- ---- lines, and what was cut off
+cut_off-none : (bs : List ℕ) → Lacks 10 bs → cut_off bs ≡ length bs
+cut_off-none bs none =
+    let all = suffix_len_is inside bs 0 0 (omega arith) (λ k _ low. not_from_false _ (none k 0 low)) (λ some. absurd (omega arith)) in
+    omega (arith, all)
+
+cut_off-line : (l bs : List ℕ) → cut_off (line l ++ bs) ≡ cut_off bs
+cut_off-line l bs =
+    ap (prefix_len inside) (reverse-append (line l) bs) ∙ prefix_len-append inside (reverse bs) (reverse (line l)) ∙ by (cut_off bs == length (reverse bs)) refl
   where
-    by : pieces (bs ++ b ∷ cs) ≡ pieces bs ++ pieces cs → (t : Bool) → cond t ([] ∷ pieces (bs ++ b ∷ cs)) (onto_first a (pieces (bs ++ b ∷ cs))) ≡ cond t ([] ∷ pieces bs) (onto_first a (pieces bs)) ++ pieces cs
-    by on true = ap (λ ls. [] ∷ ls) on
-    by on false = ap (onto_first a) on ∙ onto_first-append a (pieces bs) (pieces cs) (omega (arith, length-slice_split newline bs))
-
--- the lines of a text, whatever follows it
-abbrev pub Begins : List ℕ → Type 0
-Begins ws = (ls : List (List ℕ)) × ((cs : List ℕ) → pieces (ws ++ cs) ≡ ls ++ pieces cs)
-
-begins-reverse : (rs : List ℕ) → prefix_len inside rs ≡ 0 → Begins (reverse rs)
-begins-reverse [] whole = ([], λ cs. refl)
-begins-reverse (b ∷ rs) whole = by (newline b) refl whole
-  where
-    by : (t : Bool) → newline b ≡ t → cond (not t) (1 + prefix_len inside rs) 0 ≡ 0 → Begins (reverse (b ∷ rs))
-    by true ends none =
-        (pieces (reverse rs), λ cs. ap (λ bs. pieces (bs ++ cs)) (reverse-append (b ∷ []) rs) ∙ ap pieces (append_assoc (reverse rs) (b ∷ []) cs) ∙ pieces-behind (reverse rs) b cs ends)
-    by false ends none = absurd (omega arith)
-
-pub begins : (ws : List ℕ) → cut_off ws ≡ 0 → Begins ws
-begins ws whole = subst Begins (reverse-reverse ws) (begins-reverse (reverse ws) whole)
-
--- behind the last newline stands an empty piece
-pub pieces-whole : (ws : List ℕ) (whole : cut_off ws ≡ 0) → pieces ws ≡ (begins ws whole).0 ++ ([] ∷ [])
-pieces-whole ws whole = ap pieces (sym (append-nil ws)) ∙ (begins ws whole).1 []
-
--- ---- whole lines
-take-past : (ws cs : List ℕ) (n : ℕ) → take (length ws + n) (ws ++ cs) ≡ ws ++ take n cs
-take-past [] cs n = let same : 0 + n ≡ n = omega arith in ap (λ k. take k cs) same
-take-past (b ∷ ws) cs n = let same : suc (length ws) + n ≡ suc (length ws + n) = omega arith in ap (λ k. take k (b ∷ ws ++ cs)) same ∙ ap (λ bs. b ∷ bs) (take-past ws cs n)
-
-pub whole_lines-whole : (ws : List ℕ) → cut_off ws ≡ 0 → whole_lines ws ≡ ws
-whole_lines-whole ws whole = take_all (length ws - cut_off ws) ws (omega arith)
-
-pub replayed-whole : (ws : List ℕ) → cut_off ws ≡ 0 → replayed ws ≡ taken_up (read_lines (pieces ws))
-replayed-whole ws whole = ap (λ bs. taken_up (read_lines (pieces bs))) {x = whole_lines ws} {y = ws} (whole_lines-whole ws whole)
-
-pub cut_off-whole_lines : (bs : List ℕ) → cut_off (whole_lines bs) ≡ 0
-cut_off-whole_lines bs = by (length bs - cut_off bs) refl
-  where
-    by : (n : ℕ) → n ≡ length bs - cut_off bs → cut_off (take n bs) ≡ 0
-    by zero e = refl
-    by (suc n) e =
-        let long = length-reverse bs in
-        let same : length bs - 1 - cut_off bs ≡ suc n - 1 = omega arith in
-        suffix_len-take_no inside bs (suc n) 0 (omega arith) (omega arith)
-        (ap (λ k. inside (get_or bs k 0)) (sym same) ∙ ap inside (sym (get_or-reverse bs (cut_off bs) 0 (omega arith))) ∙ prefix_len_stops inside (reverse bs) 0 (omega arith))
-
-cut_off-append : (ws cs : List ℕ) → cut_off ws ≡ 0 → cut_off (ws ++ cs) ≡ cut_off cs
-cut_off-append ws cs whole =
-    ap (prefix_len inside) (reverse-append ws cs) ∙ prefix_len-append inside (reverse cs) (reverse ws) ∙ by (cut_off cs == length (reverse cs)) refl
-  where
-    by : (t : Bool) → (cut_off cs == length (reverse cs)) ≡ t → cond t (length (reverse cs) + cut_off ws) (cut_off cs) ≡ cut_off cs
-    by true all = let same : cut_off cs ≡ length (reverse cs) = eqb-true _ _ all in omega arith
+    by : (t : Bool) → (cut_off bs == length (reverse bs)) ≡ t → cond t (length (reverse bs) + cut_off (line l)) (cut_off bs) ≡ cut_off bs
+    by true all =
+        let whole : cut_off (line l) ≡ 0 = ap (prefix_len inside) (reverse-append l (10 ∷ [])) in
+        let same : cut_off bs ≡ length (reverse bs) = eqb-true _ _ all in omega arith
     by false some = refl
 
--- what follows whole lines is cut off where it is by itself
-pub whole_lines-append : (ws cs : List ℕ) → cut_off ws ≡ 0 → whole_lines (ws ++ cs) ≡ ws ++ whole_lines cs
-whole_lines-append ws cs whole =
-    let fits : cut_off cs ≤ length cs = suffix_len-le-length inside cs in
-    let same : length (ws ++ cs) - cut_off (ws ++ cs) ≡ length ws + (length cs - cut_off cs) = omega (arith, length-append ws cs, cut_off-append ws cs whole) in
-    ap (λ n. take n (ws ++ cs)) same ∙ take-past ws cs (length cs - cut_off cs)
+pub cut_off-text : (ls : List (List ℕ)) (bs : List ℕ) → Lacks 10 bs → cut_off (text ls ++ bs) ≡ length bs
+cut_off-text [] bs none = cut_off-none bs none
+cut_off-text (l ∷ ls) bs none = ap cut_off (append_assoc (line l) (text ls) bs) ∙ cut_off-line l (text ls ++ bs) ∙ cut_off-text ls bs none
 
--- what was cut off has no newline
-pub inside-torn : (bs : List ℕ) → All (λ b. inside b ≡ true) (torn bs)
-inside-torn bs k d low =
-    let n = cut_off bs in
-    let fits : n ≤ length bs = suffix_len-le-length inside bs in
-    let long : length (torn bs) ≡ length bs - (length bs - n) = length-drop (length bs - n) bs in
-    let same : length bs - n + k ≡ length bs - 1 - (n - 1 - k) = omega arith in
-    ap inside (get_or-drop (length bs - n) bs k d) ∙ ap (λ i. inside (get_or bs i d)) same
-    ∙ ap inside (sym (get_or-reverse bs (n - 1 - k) d (omega arith))) ∙ prefix_len_passes inside (reverse bs) (n - 1 - k) d (omega arith)
+pub whole_lines-text : (ls : List (List ℕ)) (bs : List ℕ) → Lacks 10 bs → whole_lines (text ls ++ bs) ≡ text ls
+whole_lines-text ls bs none = take_at (text ls) bs _ (omega (arith, length-append (text ls) bs, cut_off-text ls bs none))
 
--- ---- lines that are read, and then further ones
-enumerate_from-append : (i : ℕ) (ls ms : List (List ℕ)) → enumerate_from i (ls ++ ms) ≡ enumerate_from i ls ++ enumerate_from (i + length ls) ms
-enumerate_from-append i [] ms = let same : i ≡ i + 0 = omega arith in ap (λ k. enumerate_from k ms) same
-enumerate_from-append i (l ∷ ls) ms =
-    let same : i + 1 + length ls ≡ i + suc (length ls) = omega arith in
-    ap (λ es. (i, l) ∷ es) (enumerate_from-append (i + 1) ls ms ∙ ap (λ k. enumerate_from (i + 1) ls ++ enumerate_from k ms) same)
+pub pieces-text : (ls : List (List ℕ)) → All (Lacks 10) ls → pieces (text ls) ≡ ls ++ ([] ∷ [])
+pieces-text [] each = refl
+pieces-text (l ∷ ls) each =
+    ap pieces (append_assoc l (10 ∷ []) (text ls)) ∙ slice_split_at (λ b. b == 10) l 10 (text ls) (All-head (Lacks 10) l ls each) refl
+    ∙ ap (λ ms. l ∷ ms) (pieces-text ls (All-tail (Lacks 10) l ls each))
 
+-- each text is so
+pub record Lines (bs : List ℕ) : Type 0 where
+  pub lines : List (List ℕ)
+  pub rest : List ℕ
+  pub each : All (Lacks 10) lines
+  pub none : Lacks 10 rest
+  pub joined : bs ≡ text lines ++ rest
+
+pub lines_in : (bs : List ℕ) → Lines bs
+lines_in [] = record { lines = []; rest = []; each = All-nil (Lacks 10); none = All-nil (λ b. (b == 10) ≡ false); joined = refl }
+lines_in (b ∷ bs) = by (b == 10) refl (lines_in bs)
+  where
+    longer : (ls : List (List ℕ)) (rest : List ℕ) → All (Lacks 10) ls → Lacks 10 rest → bs ≡ text ls ++ rest → (b == 10) ≡ false → Lines (b ∷ bs)
+    longer [] rest each none joined other =
+        record { lines = []; rest = b ∷ rest; each = each; none = All-cons (λ c. (c == 10) ≡ false) b rest other none; joined = ap (λ cs. b ∷ cs) joined }
+    longer (l ∷ ls) rest each none joined other = record {
+      lines = (b ∷ l) ∷ ls;
+      rest = rest;
+      each = All-cons (Lacks 10) (b ∷ l) ls (All-cons (λ c. (c == 10) ≡ false) b l other (All-head (Lacks 10) l ls each)) (All-tail (Lacks 10) l ls each);
+      none = none;
+      joined = ap (λ cs. b ∷ cs) joined;
+    }
+
+    by : (t : Bool) → (b == 10) ≡ t → Lines bs → Lines (b ∷ bs)
+    by true ends x = record {
+      lines = [] ∷ x.lines;
+      rest = x.rest;
+      each = All-cons (Lacks 10) [] x.lines (All-nil (λ c. (c == 10) ≡ false)) x.each;
+      none = x.none;
+      joined = λ i. eqb-true b 10 ends i ∷ x.joined i;
+    }
+    by false other x = longer x.lines x.rest x.each x.none x.joined other
+
+-- ---- how lines are read
 pub read_lines-append : (ls ms : List (List ℕ)) → read_lines (ls ++ ms) ≡ fold read_line (read_lines ls) (enumerate_from (length ls) ms)
 read_lines-append ls ms =
     let same : 0 + length ls ≡ length ls = omega arith in
     ap (fold read_line (Ok None)) (enumerate_from-append 0 ls ms ∙ ap (λ k. enumerate_from 0 ls ++ enumerate_from k ms) same)
     ∙ fold-append read_line (Ok None) (enumerate_from 0 ls) (enumerate_from (length ls) ms)
 
-pub read_line-skipped : (r : Result (Option Replayed) Broken) (i : ℕ) (l : List ℕ) → skipped l ≡ true → read_line r (i, l) ≡ r
-read_line-skipped (Err b) i l skips = refl
-read_line-skipped (Ok j) i l skips = cond-true _ _ _ skips
+pub read_lines-skipped : (ls : List (List ℕ)) (l : List ℕ) → skipped l ≡ true → read_lines (ls ++ (l ∷ [])) ≡ read_lines ls
+read_lines-skipped ls l skips = read_lines-append ls (l ∷ []) ∙ by (read_lines ls)
+  where
+    by : (r : Result (Option Replayed) Broken) → read_line r (length ls, l) ≡ r
+    by (Err b) = refl
+    by (Ok j) = cond-true _ _ _ skips
 
-pub read_lines-whole : (ws : List ℕ) (whole : cut_off ws ≡ 0) → read_lines (pieces ws) ≡ read_lines (begins ws whole).0
-read_lines-whole ws whole =
-    let ls = (begins ws whole).0 in
-    ap read_lines (pieces-whole ws whole) ∙ read_lines-append ls ([] ∷ []) ∙ read_line-skipped (read_lines ls) (length ls) [] refl
+pub replayed-text : (ls : List (List ℕ)) (bs : List ℕ) → All (Lacks 10) ls → Lacks 10 bs → replayed (text ls ++ bs) ≡ taken_up (read_lines ls)
+replayed-text ls bs each none =
+    ap (λ cs. taken_up (read_lines (pieces cs))) (whole_lines-text ls bs none) ∙ ap (λ ms. taken_up (read_lines ms)) (pieces-text ls each)
+    ∙ ap taken_up (read_lines-skipped ls [] refl)

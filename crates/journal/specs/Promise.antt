@@ -1,12 +1,12 @@
 -- What a journal promises. Assumes nothing: these are definitions.
-use Rattle.std.specs.Prelude.{◌≡◌, ℕ, ◌^◌, ◌<◌, true, false, not, List, [], ◌∷◌, ◌++◌, map, length, filter, flat_map, Some, None, Option, Ok, Err, ◌==◌}
-use Rattle.std.specs.List.{list_all, slice_split}
+use Rattle.std.specs.Prelude.{◌≡◌, ℕ, ◌^◌, ◌<◌, not, List, [], ◌∷◌, ◌++◌, map, length, filter, flat_map, Some, None, Option, Ok, Err, ◌==◌}
+use Rattle.std.specs.List.{slice_split}
 use Rattle.bisect.specs.Engine.{Step}
 use Rattle.bisect.specs.declared.verdict.Verdict.{Verdict}
 use Rattle.session.specs.Session.{begun}
-use Rattle.journal.specs.Line.{heading, heading_in, exchange_line, exchange_read, skipped}
-use Rattle.journal.specs.Replay.{awaited, awaits, cut_off, replayed, told_verdict, whole_lines}
-use Rattle.journal.specs.declared.line.Fault.TheVariants.{Foreign}
+use Rattle.journal.specs.Line.{IsOneLine, heading, heading_in, exchange_line, exchange_read, skipped}
+use Rattle.journal.specs.Replay.{awaited, by_line, cut_off, question_of, replayed, told_verdict, whole_lines}
+use Rattle.journal.specs.declared.line.Fault.{Fault}
 use Rattle.journal.specs.declared.replay.Replayed.{Replayed}
 
 -- ---- a run that is told these verdicts, as far as it asks: what was asked and answered, and where it then stands
@@ -25,6 +25,10 @@ went (Some ks) s t = t
 unfoldable pub after : Step → List Verdict → Step
 after s [] = s
 after s (v ∷ vs) = went (awaited s) s (after (told_verdict s v) vs)
+
+-- A RUN ALWAYS AWAITS THE ANSWER TO WHAT IT ASKS, so what is recorded is all that it asked
+unfoldable pub AwaitsWhatItAsks : Type 0
+AwaitsWhatItAsks = (n : ℕ) (vs : List Verdict) → awaited (after (begun n) vs) ≡ question_of (after (begun n) vs).act
 
 -- ---- what is written of it
 abbrev pub line : List ℕ → List ℕ
@@ -57,12 +61,11 @@ pub record Tells (bs : List ℕ) (j : Replayed) : Type 0 where
 unfoldable pub OnlyItsOwn : Type 0
 OnlyItsOwn = (bs : List ℕ) (j : Replayed) → (replayed bs ≡ Ok j → Tells bs j) × (Tells bs j → replayed bs ≡ Ok j)
 
--- THE FIRST QUESTION THAT IS NOT ITS OWN IS NAMED BY ITS LINE, whatever follows
+-- THE FIRST LINE THAT IS AT FAULT IS NAMED, WITH ITS FAULT, whatever follows. A question that the reducer doesn't ask is such a line: then `by_line` gives `Err Foreign`
 unfoldable pub NamesTheFirst : Type 0
 NamesTheFirst =
-    (bs : List ℕ) (j : Replayed) (l more ks : List ℕ) (v : Verdict) → cut_off bs ≡ 0 → replayed bs ≡ Ok j → list_all (λ b. not (b == 10)) l ≡ true → skipped l ≡ false
-    → exchange_read j.parts l ≡ Ok (ks, v) → awaits j.session ks ≡ false
-    → replayed (bs ++ (line l ++ more)) ≡ Err (record { line = length (slice_split (λ b. b == 10) bs); fault = Foreign })
+    (bs : List ℕ) (j : Replayed) (l more : List ℕ) (e : Fault) → cut_off bs ≡ 0 → replayed bs ≡ Ok j → IsOneLine l → by_line (Some j) l ≡ Err e
+    → replayed (bs ++ (line l ++ more)) ≡ Err (record { line = length (slice_split (λ b. b == 10) bs); fault = e })
 
 -- WHAT WAS CUT OFF IN WRITING COUNTS AS NOT WRITTEN, also once it is ended with a blank, the sign and a newline
 unfoldable pub CutOffIsNothing : Type 0

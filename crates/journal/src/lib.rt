@@ -2,7 +2,7 @@
 #![tactic(auto)]
 
 ghost use Rattle.journal.specs.Line.{ReadsBack};
-ghost use Rattle.journal.specs.Promise.{CutOffIsNothing, GoesOn, NamesTheFirst, OnlyItsOwn};
+ghost use Rattle.journal.specs.Promise.{AwaitsWhatItAsks, CutOffIsNothing, GoesOn, NamesTheFirst, OnlyItsOwn};
 
 pub mod line;
 pub mod replay;
@@ -20,6 +20,7 @@ pub fn journal_stands() -> u8
     ensures only { OnlyItsOwn }
     ensures first { NamesTheFirst }
     ensures cut_off { CutOffIsNothing }
+    ensures awaited { AwaitsWhatItAsks }
 {
     0
 }

@@ -1,3 +1,4 @@
+use Rattle.journal.proofs.Asks.{awaits_what_it_asks}
 use Rattle.journal.proofs.CutOff.{cut_off_is_nothing}
 use Rattle.journal.proofs.First.{names_the_first}
 use Rattle.journal.proofs.GoesOn.{goes_on}
@@ -15,3 +16,6 @@ returns-clause-first c = names_the_first
 
 pub returns-clause-cut_off : goal.returns-clause-cut_off
 returns-clause-cut_off c = cut_off_is_nothing
+
+pub returns-clause-awaited : goal.returns-clause-awaited
+returns-clause-awaited c = awaits_what_it_asks
