@@ -89,6 +89,7 @@ fn step<'a>(rt: &HostRuntime, paths: &'a Paths) -> Result<(), Fault<'a>> {
     let lines = candidate::count(&text);
     let mut session = Session::begin(lines as u64);
     if session.act() == Act::TooMany {
+        say(rt, session.act())?;
         let path = paths.lines.as_str();
         return Err(Fault::TooMany { path, lines });
     }
