@@ -183,7 +183,8 @@ keeps "an answer that is no text" 'answers:3: no answer: "' lines answers out
 printf 'n\ny\n' >answers
 keeps "an answer too many" 'answers:2: there is no question to the answer "y"' lines answers out
 seq 0 4096 >many
-keeps "4,097 lines" "many: it has 4097 lines, and 4096 is the most" many answers out
+run many answers out
+expect "4,097 lines" 1 "too many" "many: it has 4097 lines, and 4096 is the most"
 holds "what was there" out keep
 
 printf 'y\n' >answers
