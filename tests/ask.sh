@@ -2,37 +2,19 @@
 # Drives the program `ask`, whose path is the first argument, through pipes.
 set -euo pipefail
 
-ask=$1
+ask=$(realpath "$1")
+. "$(dirname "$0")/common.sh"
 folder=$(mktemp -d)
 trap 'rm -rf "$folder"' EXIT
 # An answer to a program that has ended is a failed check, and not the end of this script.
 trap '' PIPE
+cd "$folder"
 
-fail() {
-    echo "FAILED: $1"
-    exit 1
-}
-
-# run INPUT ARGUMENT..: runs the program, and sets status, said (standard output) and told (standard error)
+# run INPUT ARGUMENT..: runs the program on what printf makes of INPUT
 run() {
-    local input=$1
+    printf "$1" >input
     shift
-    status=0
-    timeout 20 "$ask" "$@" < <(printf "$input" 2>/dev/null) >"$folder/said" 2>"$folder/told" || status=$?
-    said=$(<"$folder/said")
-    told=$(<"$folder/told")
-}
-
-# expect NAME STATUS SAID TOLD: holds the last run to its status, all of its output, and a text in its messages
-expect() {
-    [[ $status == "$2" ]] || fail "$1: status $status, not $2"
-    [[ $said == "$3" ]] || fail "$1: wrote '$said', not '$3'"
-    if [[ -z $4 ]]; then
-        [[ -z $told ]] || fail "$1: the message '$told'"
-    else
-        [[ $told == *"$4"* ]] || fail "$1: the message '$told' has no '$4'"
-    fi
-    echo "ok: $1"
+    run_on input "$ask" "$@"
 }
 
 # What has both part 1 and part 4 fails.

@@ -3,33 +3,14 @@
 set -euo pipefail
 
 lessen=$(realpath "$1")
+. "$(dirname "$0")/common.sh"
 folder=$(mktemp -d)
 trap 'rm -rf "$folder"' EXIT
 cd "$folder"
 
-fail() {
-    echo "FAILED: $1"
-    exit 1
-}
-
-# run ARGUMENT..: runs the program, and sets status, said (standard output) and told (standard error)
+# run ARGUMENT..: runs the program
 run() {
-    status=0
-    timeout 60 "$lessen" "$@" >said 2>told </dev/null || status=$?
-    said=$(<said)
-    told=$(<told)
-}
-
-# expect NAME STATUS SAID TOLD: holds the last run to its status, all of its output, and a text in its messages
-expect() {
-    [[ $status == "$2" ]] || fail "$1: status $status, not $2 ($told)"
-    [[ $said == "$3" ]] || fail "$1: wrote '$said', not '$3'"
-    if [[ -z $4 ]]; then
-        [[ -z $told ]] || fail "$1: the message '$told'"
-    else
-        [[ $told == *"$4"* ]] || fail "$1: the message '$told' has no '$4'"
-    fi
-    echo "ok: $1"
+    run_on /dev/null "$lessen" "$@"
 }
 
 # holds NAME FILE FORMAT: the file's bytes are what printf makes of the format

@@ -5,6 +5,7 @@ set -euo pipefail
 LESSEN=$(realpath "$1")
 export LESSEN
 reduce=$(realpath "$(dirname "$0")/../tools/reduce")
+. "$(dirname "$0")/common.sh"
 folder=$(mktemp -d)
 trap 'rm -rf "$folder"' EXIT
 cd "$folder"
@@ -12,25 +13,9 @@ cd "$folder"
 mkdir tmp
 export TMPDIR=$folder/tmp
 
-fail() {
-    echo "FAILED: $1"
-    exit 1
-}
-
-# run ARGUMENT..: runs it, and sets status, said (standard output) and told (standard error)
+# run ARGUMENT..: runs it
 run() {
-    status=0
-    timeout 120 "$reduce" "$@" >said 2>told </dev/null || status=$?
-    said=$(<said)
-    told=$(<told)
-}
-
-# expect NAME STATUS SAID TOLD: holds the last run to its status, all of its output, and a text in its messages
-expect() {
-    [[ $status == "$2" ]] || fail "$1: status $status, not $2 ($told)"
-    [[ $said == "$3" ]] || fail "$1: wrote '$said', not '$3' ($told)"
-    [[ $told == *"$4"* ]] || fail "$1: the message '$told' has no '$4'"
-    echo "ok: $1"
+    run_on /dev/null "$reduce" "$@"
 }
 
 # judge NAME: makes the shell command ./NAME of the text on standard input, which finds the candidate in $1; each call
@@ -65,7 +50,7 @@ run ./four file.txt
 left "four of 200 lines" file.txt file.txt.reduced "${four[@]}"
 once=$(calls)
 run ./four file.txt
-expect "ended, it asks nothing more" 0 "left 4 of 200 lines, $once questions" ""
+expect "ended, it asks nothing more" 0 "left 4 of 200 lines, $once questions" "lines left"
 [[ $(calls) == "$once" ]] || fail "an ended reduction asks again"
 
 judge tells <<'J'
@@ -82,7 +67,7 @@ run ./tells file.txt tells.txt
 left "a judge that can't tell, that breaks down, and that writes" file.txt tells.txt 'line 1' 'line 2' 'line 3' 'line 4' 'line 5'
 [[ $said$told != *sight* ]] || fail "what a judge says is shown"
 run 'f() { grep -q -x "line 77" "$1"; }; true && f' file.txt command.txt
-expect "a judge that is a command of several words" 0 "left 1 of 200 lines, $(wc -l <command.txt.answers) questions" ""
+expect "a judge that is a command of several words" 0 "left 1 of 200 lines, $(wc -l <command.txt.answers) questions" "lines left"
 [[ $(<command.txt) == "line 77" ]] || fail "the line 77"
 
 mkdir -- '-a folder'
@@ -98,14 +83,15 @@ run ./named -x
 left "a name that begins with a dash" ./-x ./-x.reduced 'line 50'
 : >empty
 run true empty
-expect "a file with no lines" 0 "left 0 of 0 lines, 1 questions" ""
+expect "a file with no lines" 0 "left 0 of 0 lines, 1 questions" "lines left"
 [[ -f empty.reduced && ! -s empty.reduced ]] || fail "no lines are left"
 
-# killed NAME SIGNAL OUT: stops a reduction at several moments and goes on; no answered question is asked again
+# killed NAME SIGNAL OUT: stops a reduction at ten random moments and goes on each time; no answered question is asked again
 killed() {
     local moment pid kills=0
     rm -f calls
-    for moment in 0.02 0.06 0.1 0.14 0.18 0.22 0.26 0.3; do
+    while ((kills < 10)); do
+        moment=$(printf '0.%02d' "$((RANDOM % 20 + 2))")
         setsid env --default-signal=INT "$reduce" ./slow file.txt "$3" >said 2>told </dev/null &
         pid=$!
         sleep "$moment"
@@ -180,7 +166,7 @@ run ./file.txt file.txt fresh
 expect "a judge that is no program" 1 "" "the judge can't be run (status 126): ./file.txt"
 [[ ! -e fresh ]] || fail "written with no judge"
 run ./four file.txt fresh
-expect "with a judge it goes on" 0 "left 4 of 200 lines, $once questions" ""
+expect "with a judge it goes on" 0 "left 4 of 200 lines, $once questions" "lines left"
 judge breaks <<'J'
 [[ $(wc -l <calls) != 6 ]] || exit 127
 grep -q 'line 50' "$1"
@@ -189,7 +175,7 @@ run ./breaks file.txt broken
 expect "a judge that can't be run any more" 1 "" "the judge can't be run (status 127)"
 [[ $(wc -l <broken.answers) == 5 && ! -e broken ]] || fail "its five answers are kept"
 run ./breaks file.txt broken
-expect "its answers are gone on with" 0 "left 1 of 200 lines, $(($(calls) - 1)) questions" ""
+expect "its answers are gone on with" 0 "left 1 of 200 lines, $(($(calls) - 1)) questions" "lines left"
 run false file.txt refused
 expect "a judge that does not accept FILE" 1 "" "the judge does not accept FILE itself: 'file.txt'"
 [[ ! -e refused ]] || fail "written where the judge accepts nothing"
