@@ -1,5 +1,5 @@
 -- What was written of a run leads back to where it stood.
-use Rattle.std.proofs.Common.{arith, ◌≡◌, ℕ, ◌<◌, ◌^◌, Bool, true, not, ltb, List, [], ◌∷◌, ◌++◌, map, filter, All, Some, None, Option, Ok, ◌∙◌, sym, ap, refl}
+use Rattle.std.proofs.Common.{arith, ◌≡◌, ℕ, ◌<◌, ◌^◌, Bool, true, not, ltb, List, [], ◌∷◌, ◌++◌, map, filter, All, Ok, ◌∙◌, sym, ap, refl}
 use Rattle.std.specs.List.{list_all}
 use Rattle.std.proofs.lemmas.Bool.{and_parts, ltb-true, not_from_false}
 use Rattle.std.proofs.lemmas.List.{append-nil}
@@ -11,9 +11,9 @@ use Rattle.bisect.specs.Engine.{Step}
 use Rattle.bisect.specs.declared.verdict.Verdict.{Verdict}
 use Rattle.session.specs.Session.{begun}
 use Rattle.journal.specs.Line.{IsOneLine, ReadsBack, exchange_line, exchange_read, heading, heading_in, skipped}
-use Rattle.journal.specs.Promise.{GoesOn, Tells, after, exchanged, exchanges, journal_of, line, lines_of, went}
-use Rattle.journal.specs.Replay.{awaited, told_verdict, whole_lines}
-use Rattle.journal.proofs.Asks.{exchanges_some}
+use Rattle.journal.specs.Promise.{GoesOn, Tells, after, exchanges, journal_of, line, lines_of}
+use Rattle.journal.specs.Replay.{whole_lines}
+use Rattle.journal.proofs.Asks.{along, exchanges_some}
 use Rattle.journal.proofs.LineBack.{reads_back}
 use Rattle.journal.proofs.Lists.{Lacks, Lacks-from_any, filter_all}
 use Rattle.journal.proofs.Pieces.{pieces, pieces-text, text, whole_lines-text}
@@ -57,23 +57,13 @@ all_back n small (e ∷ es) some =
 -- ---- told the verdicts that it asked for, a run is the same
 exchanges_again : (s : Step) (vs : List Verdict) → exchanges s (map (λ e. e.1) (exchanges s vs)) ≡ exchanges s vs
 unfolding exchanges
-exchanges_again s [] = refl
-exchanges_again s (v ∷ vs) = by (awaited s) refl (exchanges_again (told_verdict s v) vs)
-  where
-    by : (o : Option (List ℕ)) → awaited s ≡ o → exchanges (told_verdict s v) (map (λ e. e.1) (exchanges (told_verdict s v) vs)) ≡ exchanges (told_verdict s v) vs
-        → exchanges s (map (λ e. e.1) (exchanged o v (exchanges (told_verdict s v) vs))) ≡ exchanged o v (exchanges (told_verdict s v) vs)
-    by None asked rest = refl
-    by (Some ks) asked rest = rw (asked, rest)
+exchanges_again =
+    along (λ s vs. exchanges s (map (λ e. e.1) (exchanges s vs)) ≡ exchanges s vs) (λ s. refl) (λ s v vs asked. rw asked refl) (λ s v vs ks asked rest. rw (asked, rest, asked))
 
 after_again : (s : Step) (vs : List Verdict) → after s (map (λ e. e.1) (exchanges s vs)) ≡ after s vs
 unfolding exchanges after
-after_again s [] = refl
-after_again s (v ∷ vs) = by (awaited s) refl (after_again (told_verdict s v) vs)
-  where
-    by : (o : Option (List ℕ)) → awaited s ≡ o → after (told_verdict s v) (map (λ e. e.1) (exchanges (told_verdict s v) vs)) ≡ after (told_verdict s v) vs
-        → after s (map (λ e. e.1) (exchanged o v (exchanges (told_verdict s v) vs))) ≡ went o s (after (told_verdict s v) vs)
-    by None asked rest = refl
-    by (Some ks) asked rest = rw (asked, rest)
+after_again =
+    along (λ s vs. after s (map (λ e. e.1) (exchanges s vs)) ≡ after s vs) (λ s. refl) (λ s v vs asked. rw asked refl) (λ s v vs ks asked rest. rw (asked, rest, asked))
 
 -- ---- so the journal tells it
 told : (n : ℕ) (vs : List Verdict) → n < 2 ^ 64 → Tells (journal_of n (exchanges (begun n) vs)) (record { parts = n; session = after (begun n) vs })
