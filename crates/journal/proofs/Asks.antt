@@ -17,7 +17,7 @@ use Rattle.reduce.specs.Own.{fault}
 use Rattle.reduce.specs.State.{State, idle, first, seek, try, over, calm, many, less, trial, go_on, next, next_by, begin, act_of, act_by}
 use Rattle.reduce.proofs.Stored.{Stands, follows}
 use Rattle.session.specs.Session.{begun}
-use Rattle.journal.specs.Promise.{AwaitsWhatItAsks, after, exchanged, exchanges, went}
+use Rattle.journal.specs.Promise.{AwaitsWhatItAsks, after, exchanges}
 use Rattle.journal.specs.Replay.{awaited, faultless, question_of, told_verdict}
 
 -- ---- over lists: what is held is some of the parts
@@ -120,26 +120,30 @@ asked_so refused ks e = absurd (cc)
 act_of_awaited : (n : ℕ) (t : Step) (ks : List ℕ) → At n t → awaited t ≡ Some ks → t.act ≡ ask ks
 act_of_awaited n t ks at awaits = asked_so t.act ks (sym (awaits_asked n t at) ∙ awaits)
 
+-- ---- along a run
+-- what holds where it is told nothing more, where it awaits nothing, and of a step more, holds of each run
+pub along : (P : Step → List Verdict → Type 0) → ((t : Step) → P t []) → ((t : Step) (v : Verdict) (vs : List Verdict) → awaited t ≡ None → P t (v ∷ vs))
+    → ((t : Step) (v : Verdict) (vs : List Verdict) (ks : List ℕ) → awaited t ≡ Some ks → P (told_verdict t v) vs → P t (v ∷ vs)) → (t : Step) (vs : List Verdict) → P t vs
+along P none ends goes t [] = none t
+along P none ends goes t (v ∷ vs) = by (awaited t) refl (along P none ends goes (told_verdict t v) vs)
+  where
+    by : (o : Option (List ℕ)) → awaited t ≡ o → P (told_verdict t v) vs → P t (v ∷ vs)
+    by None awaits rest = ends t v vs awaits
+    by (Some ks) awaits rest = goes t v vs ks awaits rest
+
 exchanges_at : (n : ℕ) (t : Step) (vs : List Verdict) → At n t → list_all (λ e. some_of n e.0) (exchanges t vs) ≡ true
 unfolding exchanges
-exchanges_at n t [] at = refl
-exchanges_at n t (v ∷ vs) at = by (awaited t) refl (exchanges_at n (told_verdict t v) vs)
-  where
-    by : (o : Option (List ℕ)) → awaited t ≡ o → (At n (told_verdict t v) → list_all (λ e. some_of n e.0) (exchanges (told_verdict t v) vs) ≡ true)
-        → list_all (λ e. some_of n e.0) (exchanged o v (exchanges (told_verdict t v) vs)) ≡ true
-    by None awaits rest = refl
-    by (Some ks) awaits rest =
-        let act = act_of_awaited n t ks at awaits in
-        and_from _ _ (asks_some n at.state ks (sym at.act ∙ act) at.holds) (rest (at_told n t ks v at act))
+exchanges_at n =
+    along (λ t vs. At n t → list_all (λ e. some_of n e.0) (exchanges t vs) ≡ true) (λ t at. refl) (λ t v vs awaits at. rw awaits refl)
+    (λ t v vs ks awaits rest at.
+    let act = act_of_awaited n t ks at awaits in
+    rw awaits (and_from _ _ (asks_some n at.state ks (sym at.act ∙ act) at.holds) (rest (at_told n t ks v at act))))
 
 at_after : (n : ℕ) (t : Step) (vs : List Verdict) → At n t → At n (after t vs)
 unfolding after
-at_after n t [] at = at
-at_after n t (v ∷ vs) at = by (awaited t) refl (at_after n (told_verdict t v) vs)
-  where
-    by : (o : Option (List ℕ)) → awaited t ≡ o → (At n (told_verdict t v) → At n (after (told_verdict t v) vs)) → At n (went o t (after (told_verdict t v) vs))
-    by None awaits rest = at
-    by (Some ks) awaits rest = rest (at_told n t ks v at (act_of_awaited n t ks at awaits))
+at_after n =
+    along (λ t vs. At n t → At n (after t vs)) (λ t at. at) (λ t v vs awaits at. rw awaits at)
+    (λ t v vs ks awaits rest at. rw awaits (rest (at_told n t ks v at (act_of_awaited n t ks at awaits))))
 
 pub exchanges_some : (n : ℕ) (vs : List Verdict) → list_all (λ e. some_of n e.0) (exchanges (begun n) vs) ≡ true
 exchanges_some n vs = exchanges_at n (begun n) vs (at_begun n)

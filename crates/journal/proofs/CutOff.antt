@@ -1,12 +1,12 @@
 -- What was cut off counts as not written.
-use Rattle.std.proofs.Common.{◌≡◌, ℕ, true, false, List, [], ◌∷◌, ◌++◌, ◌==◌, ◌∙◌, sym, ap, refl}
+use Rattle.std.proofs.Common.{◌≡◌, ℕ, true, List, [], ◌∷◌, ◌++◌, ◌∙◌, sym, ap, refl}
 use Rattle.std.proofs.lemmas.Grind.{flat_map-append}
 use Rattle.std.proofs.lemmas.List.{append-nil, append_assoc, reverse-append}
 use Rattle.std.proofs.lemmas.List.Elements.{All-append, All-push}
 use Rattle.journal.specs.Line.{skipped}
 use Rattle.journal.specs.Promise.{CutOffIsNothing}
 use Rattle.journal.specs.Replay.{read_lines, replayed, taken_up, whole_lines}
-use Rattle.journal.proofs.Lists.{Lacks, Lacks-from_any}
+use Rattle.journal.proofs.Lists.{Differs, Lacks, Lacks-from_any}
 use Rattle.journal.proofs.Pieces.{lines_in, read_lines-skipped, replayed-text, text, whole_lines-text}
 
 -- a blank and the sign
@@ -17,7 +17,7 @@ skipped-signed : (bs : List ℕ) → skipped (signed bs) ≡ true
 skipped-signed bs = rw (reverse-append bs (32 ∷ 35 ∷ [])) refl
 
 Lacks-signed : (bs : List ℕ) → Lacks 10 bs → Lacks 10 (signed bs)
-Lacks-signed bs none = All-append (λ b. (b == 10) ≡ false) bs (32 ∷ 35 ∷ []) none (Lacks-from_any 10 (32 ∷ 35 ∷ []) refl)
+Lacks-signed bs none = All-append (Differs 10) bs (32 ∷ 35 ∷ []) none (Lacks-from_any 10 (32 ∷ 35 ∷ []) refl)
 
 text-signed : (ls : List (List ℕ)) (bs : List ℕ) → (text ls ++ bs) ++ (32 ∷ 35 ∷ 10 ∷ []) ≡ text (ls ++ (signed bs ∷ [])) ++ []
 text-signed ls bs = simp (flat_map-append, append_assoc, append-nil)

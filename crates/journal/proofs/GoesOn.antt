@@ -1,5 +1,5 @@
 -- What was written of a run leads back to where it stood.
-use Rattle.std.proofs.Common.{arith, ◌≡◌, ℕ, ◌<◌, ◌^◌, Bool, true, not, ltb, List, [], ◌∷◌, ◌++◌, map, filter, All, Some, None, Option, Ok, ◌∙◌, sym, ap, refl}
+use Rattle.std.proofs.Common.{arith, ◌≡◌, ℕ, ◌<◌, ◌^◌, Bool, true, not, ltb, List, [], ◌∷◌, ◌++◌, map, filter, All, Ok, ◌∙◌, sym, ap, refl}
 use Rattle.std.specs.List.{list_all}
 use Rattle.std.proofs.lemmas.Bool.{and_parts, ltb-true, not_from_false}
 use Rattle.std.proofs.lemmas.List.{append-nil}
@@ -10,11 +10,11 @@ use Rattle.subset.specs.Parts.{rising, some_of}
 use Rattle.bisect.specs.Engine.{Step}
 use Rattle.bisect.specs.declared.verdict.Verdict.{Verdict}
 use Rattle.session.specs.Session.{begun}
-use Rattle.journal.specs.Line.{IsOneLine, ReadsBack, exchange_line, exchange_read, heading, heading_in, skipped}
-use Rattle.journal.specs.Promise.{GoesOn, Tells, after, exchanged, exchanges, journal_of, line, lines_of, went}
-use Rattle.journal.specs.Replay.{awaited, told_verdict, whole_lines}
-use Rattle.journal.proofs.Asks.{exchanges_some}
-use Rattle.journal.proofs.LineBack.{reads_back}
+use Rattle.journal.specs.Line.{IsOneLine, exchange_line, exchange_read, heading, skipped}
+use Rattle.journal.specs.Promise.{GoesOn, Tells, after, exchanges, journal_of, line, lines_of}
+use Rattle.journal.specs.Replay.{whole_lines}
+use Rattle.journal.proofs.Asks.{along, exchanges_some}
+use Rattle.journal.proofs.LineBack.{exchange_back, heading_back}
 use Rattle.journal.proofs.Lists.{Lacks, Lacks-from_any, filter_all}
 use Rattle.journal.proofs.Pieces.{pieces, pieces-text, text, whole_lines-text}
 use Rattle.journal.proofs.Own.{replayed_from}
@@ -32,54 +32,36 @@ lines_of_text ls ones =
 abbrev written : List ℕ × Verdict → List ℕ
 written e = exchange_line e.0 e.1
 
-back : ReadsBack → (n : ℕ) → n < 2 ^ 64 → (heading_in (heading n) ≡ Ok n) × IsOneLine (heading n)
-unfolding ReadsBack
-back r n small = r.0 n small
-
 small_parts : (n : ℕ) (ks : List ℕ) → n < 2 ^ 64 → some_of n ks ≡ true → All (λ k. k < 2 ^ 64) ks
 small_parts n ks small some =
     let below = AllPass-from_list_all (λ k. ltb k n) ks (and_parts (rising ks) (list_all (λ k. ltb k n) ks) some).1 in
     All-weaker (λ k. ltb k n ≡ true) (λ k. k < 2 ^ 64) (λ k low. omega (arith, ltb-true k n low)) ks below
 
-exchange_back : ReadsBack → (n : ℕ) → n < 2 ^ 64 → (e : List ℕ × Verdict) → some_of n e.0 ≡ true → (exchange_read n (written e) ≡ Ok e) × IsOneLine (written e)
-unfolding ReadsBack
-exchange_back r n small (ks, v) some = r.1 n ks v some (small_parts n ks small some)
-
 all_back : (n : ℕ) → n < 2 ^ 64 → (es : List (List ℕ × Verdict)) → list_all (λ e. some_of n e.0) es ≡ true
     → (map (exchange_read n) (map written es) ≡ map Ok es) × All IsOneLine (map written es)
 all_back n small [] some = (refl, All-nil IsOneLine)
-all_back n small (e ∷ es) some =
-    let both = and_parts (some_of n e.0) (list_all (λ d. some_of n d.0) es) some in
-    let one = exchange_back reads_back n small e both.0 in
+all_back n small ((ks, v) ∷ es) some =
+    let both = and_parts (some_of n ks) (list_all (λ e. some_of n e.0) es) some in
+    let one = exchange_back n ks v both.0 (small_parts n ks small both.0) in
     let rest = all_back n small es both.1 in
-    (λ i. one.0 i ∷ rest.0 i, All-cons IsOneLine (written e) (map written es) one.1 rest.1)
+    (λ i. one.0 i ∷ rest.0 i, All-cons IsOneLine (exchange_line ks v) (map written es) one.1 rest.1)
 
 -- ---- told the verdicts that it asked for, a run is the same
 exchanges_again : (s : Step) (vs : List Verdict) → exchanges s (map (λ e. e.1) (exchanges s vs)) ≡ exchanges s vs
 unfolding exchanges
-exchanges_again s [] = refl
-exchanges_again s (v ∷ vs) = by (awaited s) refl (exchanges_again (told_verdict s v) vs)
-  where
-    by : (o : Option (List ℕ)) → awaited s ≡ o → exchanges (told_verdict s v) (map (λ e. e.1) (exchanges (told_verdict s v) vs)) ≡ exchanges (told_verdict s v) vs
-        → exchanges s (map (λ e. e.1) (exchanged o v (exchanges (told_verdict s v) vs))) ≡ exchanged o v (exchanges (told_verdict s v) vs)
-    by None asked rest = refl
-    by (Some ks) asked rest = rw (asked, rest)
+exchanges_again =
+    along (λ s vs. exchanges s (map (λ e. e.1) (exchanges s vs)) ≡ exchanges s vs) (λ s. refl) (λ s v vs asked. rw asked refl) (λ s v vs ks asked rest. rw (asked, rest, asked))
 
 after_again : (s : Step) (vs : List Verdict) → after s (map (λ e. e.1) (exchanges s vs)) ≡ after s vs
 unfolding exchanges after
-after_again s [] = refl
-after_again s (v ∷ vs) = by (awaited s) refl (after_again (told_verdict s v) vs)
-  where
-    by : (o : Option (List ℕ)) → awaited s ≡ o → after (told_verdict s v) (map (λ e. e.1) (exchanges (told_verdict s v) vs)) ≡ after (told_verdict s v) vs
-        → after s (map (λ e. e.1) (exchanged o v (exchanges (told_verdict s v) vs))) ≡ went o s (after (told_verdict s v) vs)
-    by None asked rest = refl
-    by (Some ks) asked rest = rw (asked, rest)
+after_again =
+    along (λ s vs. after s (map (λ e. e.1) (exchanges s vs)) ≡ after s vs) (λ s. refl) (λ s v vs asked. rw asked refl) (λ s v vs ks asked rest. rw (asked, rest, asked))
 
 -- ---- so the journal tells it
 told : (n : ℕ) (vs : List Verdict) → n < 2 ^ 64 → Tells (journal_of n (exchanges (begun n) vs)) (record { parts = n; session = after (begun n) vs })
 told n vs small =
     let es = exchanges (begun n) vs in
-    let first = back reads_back n small in
+    let first = heading_back n small in
     let rest = all_back n small es (exchanges_some n vs) in
     record {
       first = heading n;

@@ -5,9 +5,12 @@ use Rattle.std.proofs.lemmas.Bool.{both_ways, cond-true, false_from_ne_true}
 use Rattle.std.proofs.lemmas.List.Elements.{All-head, All-tail}
 use Rattle.std.proofs.lemmas.List.Folds.{list_any_at}
 
+abbrev pub Differs : (c b : ℕ) → Type 0
+Differs c b = (b == c) ≡ false
+
 -- no byte is c
 abbrev pub Lacks : ℕ → List ℕ → Type 0
-Lacks c bs = All (λ b. (b == c) ≡ false) bs
+Lacks c bs = All (Differs c) bs
 
 pub Lacks-from_any : (c : ℕ) (bs : List ℕ) → list_any (λ b. b == c) bs ≡ false → Lacks c bs
 Lacks-from_any c bs none k d low = false_from_ne_true (get_or bs k d == c) (λ found. both_ways _ none (list_any_at (λ b. b == c) bs k d low found))

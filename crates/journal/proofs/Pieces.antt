@@ -1,7 +1,7 @@
 -- A text as its lines, and how they are read.
-use Rattle.std.proofs.Common.{arith, ◌≡◌, ℕ, ◌+◌, Bool, true, false, cond, not, List, [], ◌∷◌, ◌++◌, length, reverse, fold, All, None, Option, Ok, Err, Result, ◌==◌, ◌∙◌, ap, refl}
+use Rattle.std.proofs.Common.{arith, ◌≡◌, ℕ, ◌+◌, Bool, true, false, not, List, [], ◌∷◌, ◌++◌, length, reverse, fold, All, None, Option, Ok, Err, Result, ◌==◌, ◌∙◌, ap, refl}
 use Rattle.std.specs.List.{enumerate_from, flat_map, prefix_len, slice_split}
-use Rattle.std.proofs.lemmas.Bool.{cond-true, eqb-true, not_from_false}
+use Rattle.std.proofs.lemmas.Bool.{cond_both, cond-true, eqb-true, not_from_false}
 use Rattle.std.proofs.lemmas.List.{append_assoc, length-append, reverse-append, take_at}
 use Rattle.std.proofs.lemmas.List.Elements.{All-cons, All-head, All-nil, All-tail}
 use Rattle.std.proofs.lemmas.List.Folds.{prefix_len-append}
@@ -12,7 +12,7 @@ use Rattle.journal.specs.Promise.{line}
 use Rattle.journal.specs.Replay.{cut_off, read_line, read_lines, replayed, taken_up, whole_lines}
 use Rattle.journal.specs.declared.replay.Broken.{Broken}
 use Rattle.journal.specs.declared.replay.Replayed.{Replayed}
-use Rattle.journal.proofs.Lists.{Lacks, enumerate_from-append}
+use Rattle.journal.proofs.Lists.{Differs, Lacks, enumerate_from-append}
 
 abbrev inside : ℕ → Bool
 inside b = not (b == 10)
@@ -31,13 +31,9 @@ cut_off-none bs none =
 
 cut_off-line : (l bs : List ℕ) → cut_off (line l ++ bs) ≡ cut_off bs
 cut_off-line l bs =
-    ap (prefix_len inside) (reverse-append (line l) bs) ∙ prefix_len-append inside (reverse bs) (reverse (line l)) ∙ by (cut_off bs == length (reverse bs)) refl
-  where
-    by : (t : Bool) → (cut_off bs == length (reverse bs)) ≡ t → cond t (length (reverse bs) + cut_off (line l)) (cut_off bs) ≡ cut_off bs
-    by true all =
-        let whole : cut_off (line l) ≡ 0 = ap (prefix_len inside) (reverse-append l (10 ∷ [])) in
-        let same : cut_off bs ≡ length (reverse bs) = eqb-true _ _ all in omega arith
-    by false some = refl
+    let whole : cut_off (line l) ≡ 0 = ap (prefix_len inside) (reverse-append l (10 ∷ [])) in
+    ap (prefix_len inside) (reverse-append (line l) bs) ∙ prefix_len-append inside (reverse bs) (reverse (line l))
+    ∙ cond_both (cut_off bs == length (reverse bs)) _ _ (λ n. n ≡ cut_off bs) (λ all. omega (arith, eqb-true _ _ all)) (λ some. refl)
 
 pub cut_off-text : (ls : List (List ℕ)) (bs : List ℕ) → Lacks 10 bs → cut_off (text ls ++ bs) ≡ length bs
 cut_off-text [] bs none = cut_off-none bs none
@@ -61,16 +57,16 @@ pub record Lines (bs : List ℕ) : Type 0 where
   pub joined : bs ≡ text lines ++ rest
 
 pub lines_in : (bs : List ℕ) → Lines bs
-lines_in [] = record { lines = []; rest = []; each = All-nil (Lacks 10); none = All-nil (λ b. (b == 10) ≡ false); joined = refl }
+lines_in [] = record { lines = []; rest = []; each = All-nil (Lacks 10); none = All-nil (Differs 10); joined = refl }
 lines_in (b ∷ bs) = by (b == 10) refl (lines_in bs)
   where
     longer : (ls : List (List ℕ)) (rest : List ℕ) → All (Lacks 10) ls → Lacks 10 rest → bs ≡ text ls ++ rest → (b == 10) ≡ false → Lines (b ∷ bs)
     longer [] rest each none joined other =
-        record { lines = []; rest = b ∷ rest; each = each; none = All-cons (λ c. (c == 10) ≡ false) b rest other none; joined = ap (λ cs. b ∷ cs) joined }
+        record { lines = []; rest = b ∷ rest; each = each; none = All-cons (Differs 10) b rest other none; joined = ap (λ cs. b ∷ cs) joined }
     longer (l ∷ ls) rest each none joined other = record {
       lines = (b ∷ l) ∷ ls;
       rest = rest;
-      each = All-cons (Lacks 10) (b ∷ l) ls (All-cons (λ c. (c == 10) ≡ false) b l other (All-head (Lacks 10) l ls each)) (All-tail (Lacks 10) l ls each);
+      each = All-cons (Lacks 10) (b ∷ l) ls (All-cons (Differs 10) b l other (All-head (Lacks 10) l ls each)) (All-tail (Lacks 10) l ls each);
       none = none;
       joined = ap (λ cs. b ∷ cs) joined;
     }
@@ -79,7 +75,7 @@ lines_in (b ∷ bs) = by (b == 10) refl (lines_in bs)
     by true ends x = record {
       lines = [] ∷ x.lines;
       rest = x.rest;
-      each = All-cons (Lacks 10) [] x.lines (All-nil (λ c. (c == 10) ≡ false)) x.each;
+      each = All-cons (Lacks 10) [] x.lines (All-nil (Differs 10)) x.each;
       none = x.none;
       joined = λ i. eqb-true b 10 ends i ∷ x.joined i;
     }
