@@ -11,7 +11,7 @@ use Rattle.bisect.specs.declared.verdict.Verdict.{Verdict}
 use Rattle.session.specs.Session.{begun}
 use Rattle.journal.specs.Line.{◌>>=◌, heading_in, exchange_read, skipped}
 use Rattle.journal.specs.Promise.{OnlyItsOwn, Tells, after, exchanged, exchanges, lines_of, went}
-use Rattle.journal.specs.Replay.{answered, at_line, awaited, begun_by, by_line, gone_on, read_line, replayed, taken_up, told_verdict, whole_lines}
+use Rattle.journal.specs.Replay.{answered, at_line, awaited, awaits, begun_by, by_line, gone_on, read_line, replayed, taken_up, told_verdict, whole_lines}
 use Rattle.journal.specs.declared.line.Fault.{Fault}
 use Rattle.journal.specs.declared.line.Fault.TheVariants.{Foreign, Version}
 use Rattle.journal.specs.declared.replay.Broken.{Broken}
@@ -64,6 +64,10 @@ record Goes (n : ℕ) (s : Step) (ls : List (List ℕ)) (j : Replayed) : Type 0 
   own : recorded ≡ exchanges s (verdicts recorded)
   stands : j ≡ stood n s recorded
 
+awaited_from : (o : Option (List ℕ)) (ks : List ℕ) → option_map_or (λ js. pointwise nat_eq js ks) o false ≡ true → o ≡ Some ks
+awaited_from None ks e = absurd (cc)
+awaited_from (Some js) ks e = ap (λ l. Some l) ((bytes_decides js ks).0 e)
+
 goes_from : (n : ℕ) (s : Step) (ls : List (List ℕ)) (j : Replayed) → followed (Some (record { parts = n; session = s })) ls ≡ Ok j → Goes n s ls j
 unfolding exchanges after
 goes_from n s [] j e = record { recorded = []; read = refl; own = refl; stands = cc }
@@ -71,26 +75,15 @@ goes_from n s (l ∷ ls) j e = by (exchange_read n l) refl e (λ v. goes_from n 
   where
     by : (x : Result (List ℕ × Verdict) Fault) → exchange_read n l ≡ x → (gone_on n (answered s x) >>= (λ k. followed (Some k) ls)) ≡ Ok j
         → ((v : Verdict) → followed (Some (record { parts = n; session = told_verdict s v })) ls ≡ Ok j → Goes n (told_verdict s v) ls j) → Goes n s (l ∷ ls) j
-    by (Err f) said e goes = absurd (cc)
-    by (Ok (ks, v)) said e goes = asked_so (awaited s) refl e
+    by (Err f) said e rest = absurd (cc)
+    by (Ok (ks, v)) said e rest = asked_so (awaits s ks) refl e
       where
-        same_so : (js : List ℕ) (b : Bool) → pointwise nat_eq js ks ≡ b → awaited s ≡ Some js
-            → (gone_on n (cond b (Ok (told_verdict s v)) (Err Foreign)) >>= (λ k. followed (Some k) ls)) ≡ Ok j → Goes n s (l ∷ ls) j
-        same_so js false same asked e = absurd (cc)
-        same_so js true same asked e =
-            let x = goes v e in
-            let own_one : awaited s ≡ Some ks = asked ∙ ap (λ l. Some l) ((bytes_decides js ks).0 same) in
-            record {
-              recorded = (ks, v) ∷ x.recorded;
-              read = λ i. said i ∷ x.read i;
-              own = ap (λ es. (ks, v) ∷ es) x.own ∙ sym (ap (λ o. exchanged o v (exchanges (told_verdict s v) (verdicts x.recorded))) own_one);
-              stands = x.stands ∙ sym (ap (λ o. record { parts = n; session = went o s (after (told_verdict s v) (verdicts x.recorded)) }) own_one);
-            }
-
-        asked_so : (o : Option (List ℕ)) → awaited s ≡ o
-            → (gone_on n (cond (option_map_or (λ js. pointwise nat_eq js ks) o false) (Ok (told_verdict s v)) (Err Foreign)) >>= (λ k. followed (Some k) ls)) ≡ Ok j → Goes n s (l ∷ ls) j
-        asked_so None asked e = absurd (cc)
-        asked_so (Some js) asked e = same_so js (pointwise nat_eq js ks) refl asked e
+        asked_so : (b : Bool) → awaits s ks ≡ b → (gone_on n (cond b (Ok (told_verdict s v)) (Err Foreign)) >>= (λ k. followed (Some k) ls)) ≡ Ok j → Goes n s (l ∷ ls) j
+        asked_so false own e = absurd (cc)
+        asked_so true own e =
+            let asked = awaited_from (awaited s) ks own in
+            let x = rest v e in
+            record { recorded = (ks, v) ∷ x.recorded; read = λ i. said i ∷ x.read i; own = rw asked (ap (λ es. (ks, v) ∷ es) x.own); stands = rw asked x.stands }
 
 followed_from : (n : ℕ) (s : Step) (ls : List (List ℕ)) (es : List (List ℕ × Verdict)) → map (exchange_read n) ls ≡ map Ok es → es ≡ exchanges s (verdicts es)
     → followed (Some (record { parts = n; session = s })) ls ≡ Ok (stood n s es)
