@@ -17,7 +17,7 @@ use Rattle.journal.proofs.Asks.{along, exchanges_some}
 use Rattle.journal.proofs.LineBack.{exchange_back, heading_back}
 use Rattle.journal.proofs.Lists.{Lacks, Lacks-from_any, filter_all}
 use Rattle.journal.proofs.Pieces.{pieces, pieces-text, text, whole_lines-text}
-use Rattle.journal.proofs.Own.{replayed_from}
+use Rattle.journal.proofs.Own.{replayed_from, verdicts}
 
 -- ---- a text of lines, and its lines
 lines_of_text : (ls : List (List ℕ)) → All IsOneLine ls → lines_of (text ls) ≡ ls
@@ -47,15 +47,15 @@ all_back n small ((ks, v) ∷ es) some =
     (λ i. one.0 i ∷ rest.0 i, All-cons IsOneLine (exchange_line ks v) (map written es) one.1 rest.1)
 
 -- ---- told the verdicts that it asked for, a run is the same
-exchanges_again : (s : Step) (vs : List Verdict) → exchanges s (map (λ e. e.1) (exchanges s vs)) ≡ exchanges s vs
+exchanges_again : (s : Step) (vs : List Verdict) → exchanges s (verdicts (exchanges s vs)) ≡ exchanges s vs
 unfolding exchanges
 exchanges_again =
-    along (λ s vs. exchanges s (map (λ e. e.1) (exchanges s vs)) ≡ exchanges s vs) (λ s. refl) (λ s v vs asked. rw asked refl) (λ s v vs ks asked rest. rw (asked, rest, asked))
+    along (λ s vs. exchanges s (verdicts (exchanges s vs)) ≡ exchanges s vs) (λ s. refl) (λ s v vs asked. rw asked refl) (λ s v vs ks asked rest. rw (asked, rest, asked))
 
-after_again : (s : Step) (vs : List Verdict) → after s (map (λ e. e.1) (exchanges s vs)) ≡ after s vs
+after_again : (s : Step) (vs : List Verdict) → after s (verdicts (exchanges s vs)) ≡ after s vs
 unfolding exchanges after
 after_again =
-    along (λ s vs. after s (map (λ e. e.1) (exchanges s vs)) ≡ after s vs) (λ s. refl) (λ s v vs asked. rw asked refl) (λ s v vs ks asked rest. rw (asked, rest, asked))
+    along (λ s vs. after s (verdicts (exchanges s vs)) ≡ after s vs) (λ s. refl) (λ s v vs asked. rw asked refl) (λ s v vs ks asked rest. rw (asked, rest, asked))
 
 -- ---- so the journal tells it
 told : (n : ℕ) (vs : List Verdict) → n < 2 ^ 64 → Tells (journal_of n (exchanges (begun n) vs)) (record { parts = n; session = after (begun n) vs })
@@ -63,10 +63,11 @@ told n vs small =
     let es = exchanges (begun n) vs in
     let first = heading_back n small in
     let rest = all_back n small es (exchanges_some n vs) in
+    let ones = All-cons IsOneLine (heading n) (map written es) first.1 rest.1 in
     record {
       first = heading n;
       rest = map written es;
-      lines = ap (λ bs. lines_of (line (heading n) ++ bs)) (sym (flat_map-map line written es)) ∙ lines_of_text (heading n ∷ map written es) (All-cons IsOneLine (heading n) (map written es) first.1 rest.1);
+      lines = ap (λ bs. lines_of (line (heading n) ++ bs)) (sym (flat_map-map line written es)) ∙ lines_of_text (heading n ∷ map written es) ones;
       parts = first.0;
       recorded = es;
       read = rest.0;

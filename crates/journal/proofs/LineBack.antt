@@ -98,19 +98,18 @@ line_verdict-letter Yes = refl
 line_verdict-letter No = refl
 line_verdict-letter Unclear = refl
 
-exchange_read-parts : (n : ℕ) (bs : List ℕ) (i : ℕ) (v : Verdict) (ks : List ℕ) → position (λ b. b == 63) bs ≡ Some i → line_verdict (drop (i + 1) bs) ≡ Some v → numbers (words (take i bs)) ≡ Some ks → checked n ks ≡ Ok tt → exchange_read n bs ≡ Ok (ks, v)
-exchange_read-parts n bs i v ks mark verdict question some = rw (mark, verdict, question, some) refl
-
 exchange_read-written : (n : ℕ) (ks : List ℕ) (v : Verdict) → some_of n ks ≡ true → Small ks → exchange_read n (exchange_line ks v) ≡ Ok (ks, v)
 exchange_read-written n ks v some small =
+    let bs = exchange_line ks v in
     let ps = joined ks in
     let back : List ℕ = 32 ∷ letter v ∷ [] in
     let apart = append_assoc ps (63 ∷ []) back in
-    exchange_read-parts n (exchange_line ks v) (length ps) v ks
-    (rw apart (position-at 63 ps back (Lacks-joined 63 ks refl refl small)))
-    (ap line_verdict (drop_at (ps ++ 63 ∷ []) back (length ps + 1) (length_push ps 63)) ∙ line_verdict-letter v)
-    (rw (apart, take_at ps (63 ∷ back) (length ps) refl) (ap numbers (words-joined ks small) ∙ fold-decimal [] ks small))
-    (checked-some n ks some)
+    let mark : position (λ b. b == 63) bs ≡ Some (length ps) = rw apart (position-at 63 ps back (Lacks-joined 63 ks refl refl small)) in
+    let verdict : line_verdict (drop (length ps + 1) bs) ≡ Some v =
+    ap line_verdict (drop_at (ps ++ 63 ∷ []) back (length ps + 1) (length_push ps 63)) ∙ line_verdict-letter v in
+    let question : numbers (words (take (length ps) bs)) ≡ Some ks =
+    ap (λ cs. numbers (words (take (length ps) cs))) apart ∙ ap (λ cs. numbers (words cs)) (take_at ps (63 ∷ back) (length ps) refl) ∙ ap numbers (words-joined ks small) ∙ fold-decimal [] ks small in
+    rw (mark, verdict, question, checked-some n ks some) refl
 
 skipped-letter : (bs : List ℕ) (v : Verdict) → skipped (bs ++ (32 ∷ letter v ∷ [])) ≡ false
 skipped-letter bs Yes = rw (reverse-append bs) refl
@@ -124,7 +123,8 @@ Lacks-verdict Unclear = Lacks-from_any 10 (32 ∷ 117 ∷ []) refl
 
 Lacks-exchange : (ks : List ℕ) (v : Verdict) → Small ks → Lacks 10 (exchange_line ks v)
 Lacks-exchange ks v small =
-    All-append (Differs 10) (question_line ks) (32 ∷ letter v ∷ []) (All-append (Differs 10) (joined ks) (63 ∷ []) (Lacks-joined 10 ks refl refl small) (Lacks-from_any 10 (63 ∷ []) refl)) (Lacks-verdict v)
+    let question = All-append (Differs 10) (joined ks) (63 ∷ []) (Lacks-joined 10 ks refl refl small) (Lacks-from_any 10 (63 ∷ []) refl) in
+    All-append (Differs 10) (question_line ks) (32 ∷ letter v ∷ []) question (Lacks-verdict v)
 
 -- ---- a heading and an exchange
 pub heading_back : (n : ℕ) → n < 2 ^ 64 → (heading_in (heading n) ≡ Ok n) × IsOneLine (heading n)

@@ -11,7 +11,7 @@ use Rattle.bisect.specs.declared.verdict.Verdict.{Verdict}
 use Rattle.session.specs.Session.{begun}
 use Rattle.journal.specs.Line.{◌>>=◌, heading_in, exchange_read, skipped}
 use Rattle.journal.specs.Promise.{OnlyItsOwn, Tells, after, exchanged, exchanges, lines_of, went}
-use Rattle.journal.specs.Replay.{answered, at_line, awaited, begun_by, by_line, gone_on, read_line, replayed, taken_up, told_verdict, whole_lines}
+use Rattle.journal.specs.Replay.{answered, at_line, awaited, awaits, begun_by, by_line, gone_on, read_line, replayed, taken_up, told_verdict, whole_lines}
 use Rattle.journal.specs.declared.line.Fault.{Fault}
 use Rattle.journal.specs.declared.line.Fault.TheVariants.{Foreign, Version}
 use Rattle.journal.specs.declared.replay.Broken.{Broken}
@@ -52,48 +52,41 @@ from_result_ok (Ok k) j e = cc
 from_result_ok (Err b) j e = absurd (cc)
 
 -- ---- lines that tell just what is asked
-abbrev verdicts : List (List ℕ × Verdict) → List Verdict
+abbrev pub verdicts : List (List ℕ × Verdict) → List Verdict
 verdicts es = map (λ e. e.1) es
 
-abbrev stood : ℕ → Step → List (List ℕ × Verdict) → Replayed
-stood n s es = record { parts = n; session = after s (verdicts es) }
+abbrev run : ℕ → Step → Replayed
+run n s = record { parts = n; session = s }
 
 record Goes (n : ℕ) (s : Step) (ls : List (List ℕ)) (j : Replayed) : Type 0 where
   recorded : List (List ℕ × Verdict)
   read : map (exchange_read n) ls ≡ map Ok recorded
   own : recorded ≡ exchanges s (verdicts recorded)
-  stands : j ≡ stood n s recorded
+  stands : j ≡ run n (after s (verdicts recorded))
 
-goes_from : (n : ℕ) (s : Step) (ls : List (List ℕ)) (j : Replayed) → followed (Some (record { parts = n; session = s })) ls ≡ Ok j → Goes n s ls j
+awaited_from : (o : Option (List ℕ)) (ks : List ℕ) → option_map_or (λ js. pointwise nat_eq js ks) o false ≡ true → o ≡ Some ks
+awaited_from None ks e = absurd (cc)
+awaited_from (Some js) ks e = ap (λ l. Some l) ((bytes_decides js ks).0 e)
+
+goes_from : (n : ℕ) (s : Step) (ls : List (List ℕ)) (j : Replayed) → followed (Some (run n s)) ls ≡ Ok j → Goes n s ls j
 unfolding exchanges after
 goes_from n s [] j e = record { recorded = []; read = refl; own = refl; stands = cc }
 goes_from n s (l ∷ ls) j e = by (exchange_read n l) refl e (λ v. goes_from n (told_verdict s v) ls j)
   where
     by : (x : Result (List ℕ × Verdict) Fault) → exchange_read n l ≡ x → (gone_on n (answered s x) >>= (λ k. followed (Some k) ls)) ≡ Ok j
-        → ((v : Verdict) → followed (Some (record { parts = n; session = told_verdict s v })) ls ≡ Ok j → Goes n (told_verdict s v) ls j) → Goes n s (l ∷ ls) j
-    by (Err f) said e goes = absurd (cc)
-    by (Ok (ks, v)) said e goes = asked_so (awaited s) refl e
+        → ((v : Verdict) → followed (Some (run n (told_verdict s v))) ls ≡ Ok j → Goes n (told_verdict s v) ls j) → Goes n s (l ∷ ls) j
+    by (Err f) said e rest = absurd (cc)
+    by (Ok (ks, v)) said e rest = asked_so (awaits s ks) refl e
       where
-        same_so : (js : List ℕ) (b : Bool) → pointwise nat_eq js ks ≡ b → awaited s ≡ Some js
-            → (gone_on n (cond b (Ok (told_verdict s v)) (Err Foreign)) >>= (λ k. followed (Some k) ls)) ≡ Ok j → Goes n s (l ∷ ls) j
-        same_so js false same asked e = absurd (cc)
-        same_so js true same asked e =
-            let x = goes v e in
-            let own_one : awaited s ≡ Some ks = asked ∙ ap (λ l. Some l) ((bytes_decides js ks).0 same) in
-            record {
-              recorded = (ks, v) ∷ x.recorded;
-              read = λ i. said i ∷ x.read i;
-              own = ap (λ es. (ks, v) ∷ es) x.own ∙ sym (ap (λ o. exchanged o v (exchanges (told_verdict s v) (verdicts x.recorded))) own_one);
-              stands = x.stands ∙ sym (ap (λ o. record { parts = n; session = went o s (after (told_verdict s v) (verdicts x.recorded)) }) own_one);
-            }
-
-        asked_so : (o : Option (List ℕ)) → awaited s ≡ o
-            → (gone_on n (cond (option_map_or (λ js. pointwise nat_eq js ks) o false) (Ok (told_verdict s v)) (Err Foreign)) >>= (λ k. followed (Some k) ls)) ≡ Ok j → Goes n s (l ∷ ls) j
-        asked_so None asked e = absurd (cc)
-        asked_so (Some js) asked e = same_so js (pointwise nat_eq js ks) refl asked e
+        asked_so : (b : Bool) → awaits s ks ≡ b → (gone_on n (cond b (Ok (told_verdict s v)) (Err Foreign)) >>= (λ k. followed (Some k) ls)) ≡ Ok j → Goes n s (l ∷ ls) j
+        asked_so false own e = absurd (cc)
+        asked_so true own e =
+            let asked = awaited_from (awaited s) ks own in
+            let x = rest v e in
+            record { recorded = (ks, v) ∷ x.recorded; read = λ i. said i ∷ x.read i; own = rw asked (ap (λ es. (ks, v) ∷ es) x.own); stands = rw asked x.stands }
 
 followed_from : (n : ℕ) (s : Step) (ls : List (List ℕ)) (es : List (List ℕ × Verdict)) → map (exchange_read n) ls ≡ map Ok es → es ≡ exchanges s (verdicts es)
-    → followed (Some (record { parts = n; session = s })) ls ≡ Ok (stood n s es)
+    → followed (Some (run n s)) ls ≡ Ok (run n (after s (verdicts es)))
 unfolding exchanges after
 followed_from n s [] [] read own = refl
 followed_from n s [] (e ∷ es) read own = absurd (cc)
@@ -101,8 +94,8 @@ followed_from n s (l ∷ ls) [] read own = absurd (cc)
 followed_from n s (l ∷ ls) ((ks, v) ∷ es) read own = by (awaited s) refl own (cc) (cc) (followed_from n (told_verdict s v) ls es)
   where
     by : (o : Option (List ℕ)) → awaited s ≡ o → (ks, v) ∷ es ≡ exchanged o v (exchanges (told_verdict s v) (verdicts es)) → exchange_read n l ≡ Ok (ks, v) → map (exchange_read n) ls ≡ map Ok es
-        → (map (exchange_read n) ls ≡ map Ok es → es ≡ exchanges (told_verdict s v) (verdicts es) → followed (Some (record { parts = n; session = told_verdict s v })) ls ≡ Ok (stood n (told_verdict s v) es))
-        → followed (Some (record { parts = n; session = s })) (l ∷ ls) ≡ Ok (record { parts = n; session = went o s (after (told_verdict s v) (verdicts es)) })
+        → (map (exchange_read n) ls ≡ map Ok es → es ≡ exchanges (told_verdict s v) (verdicts es) → followed (Some (run n (told_verdict s v))) ls ≡ Ok (run n (after (told_verdict s v) (verdicts es))))
+        → followed (Some (run n s)) (l ∷ ls) ≡ Ok (run n (went o s (after (told_verdict s v) (verdicts es))))
     by None asked own said read rest = absurd (cc)
     by (Some js) asked own said read rest =
         let one : ◌≡◌ {A = List ℕ × Verdict} (ks, v) (js, v) = cc own in
@@ -123,7 +116,7 @@ pub replayed_from : (bs : List ℕ) (j : Replayed) → Tells bs j → replayed b
 replayed_from bs j t =
     let taken : followed None (lines_of bs) ≡ Ok j =
     ap (followed None) t.lines ∙ ap (λ x. begun_by x >>= (λ k. followed (Some k) t.rest)) t.parts
-    ∙ followed_from j.parts (begun j.parts) t.rest t.recorded t.read t.own ∙ ap (λ s. Ok (record { parts = j.parts; session = s })) (sym t.stands) in
+    ∙ followed_from j.parts (begun j.parts) t.rest t.recorded t.read t.own ∙ ap (λ s. Ok (run j.parts s)) (sym t.stands) in
     from_result_ok (replayed bs) j (result_ok-kept None 0 (pieces (whole_lines bs)) ∙ ap result_ok taken)
 
 pub only_its_own : OnlyItsOwn
