@@ -156,8 +156,8 @@ def tables(cells, times):
         *table(cells, random), "",
         "Other judges:", "",
         *table(cells, others), "",
-        "The machine's own time for a question, in microseconds; the worst that was measured, and the slowest step when "
-        "each is taken at the fastest of five repeats:", "",
+        "The machine's own time for a question, in microseconds; the worst that was measured, and the slowest step"
+        " when each is taken at the fastest of five repeats:", "",
         "| parts | mean | worst | slowest step |", "|---:|---:|---:|---:|",
         *(f"| {int(row['n']):,} | {row['mean_us']} | {row['worst_us']} | {row['worst_of_fastest_us']} |"
           for row in times), ""])

@@ -1,5 +1,6 @@
-// With a folder as its argument, counts questions and measures time, and writes questions.csv and time.csv there. With
-// none, prints what the machine does with every judge of three parts, and with the two-valued ones of four that fail all.
+// With a folder as its argument, counts questions and measures time, and writes questions.csv and time.csv there.
+// With none, prints what the machine does with every judge of three parts, and with the two-valued ones of four that
+// fail all.
 
 mod judges;
 mod methods;

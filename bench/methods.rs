@@ -279,9 +279,9 @@ pub fn ddmin(asked: &mut Asked) -> Left {
 
 // ---- QuickXplain
 
-// Written for this bench from: U. Junker, "QuickXplain: Conflict Detection for Arbitrary Constraint Satisfaction
-// Problems", 2001, and "QUICKXPLAIN: Preferred Explanations and Relaxations for Over-Constrained Problems", AAAI 2004; a
-// conflict is a subset that fails. It takes it that failing is monotone and that nothing alone doesn't fail.
+// Written for this bench from: U. Junker, "QUICKXPLAIN: Preferred Explanations and Relaxations for Over-Constrained
+// Problems", AAAI 2004; a conflict is a subset that fails. It takes it that failing is monotone and that nothing alone
+// doesn't fail.
 pub fn quickxplain(asked: &mut Asked) -> Left {
     let all = asked.all();
     if !asked.fails(&all) {
