@@ -1,4 +1,5 @@
 // Finds the parts that make something fail, by asking at a keyboard, or another program.
+// It uses `dialog` for its lines, `session` for the reducer, and `journal` for what is kept.
 #![tactic(auto)]
 
 mod options;

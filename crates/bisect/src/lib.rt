@@ -1,4 +1,5 @@
 // The words of reducers: judges, lean subsets, engines and their runs; one pass over a subset that fails; and the entry that leaves one part out.
+// It uses `subset`; it knows nothing of restarts, nor where numbers lie in the reducer's memory but a pass's own.
 #![tactic(auto)]
 
 ghost use Rattle.std.specs.Prelude.{◌≡◌, ◌+◌, ◌≤◌, ◌++◌, length, drop, position, ◌==◌};

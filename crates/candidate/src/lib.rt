@@ -1,4 +1,5 @@
 // The lines of a file as the parts to reduce: how many there are, and the text that some of them make.
+// It uses no other crate.
 #![tactic(auto)]
 
 ghost use Rattle.std.specs.Prelude.{◌≡◌, ◌<◌, ◌^◌, map, length, IfOk};

@@ -1,4 +1,5 @@
 // The step for callers in C, as one exported function over lent numbers.
+// It uses `reduce`, and adds nothing to what it promises.
 #![tactic(auto)]
 
 ghost use Rattle.std.specs.Prelude.{◌≡◌};

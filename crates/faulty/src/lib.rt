@@ -1,5 +1,6 @@
 // Machines that fail, each to be caught at breaking a promise. What they do is shown by running them; proved is that each is safe, ends,
 // and tells of what stands in the lent row. They hold a subset by its number, part p counting 2^p, and so take at most 63 parts.
+// It uses `inspect` for what a machine answers, and `subset` and `bisect` for their small subsets.
 #![tactic(auto)]
 
 pub use again::AsksAgain;

@@ -1,4 +1,5 @@
 // What shows whether a reducer keeps its promises: a recorder of runs, and an inspector of what was recorded.
+// It uses the reducer as any other machine, and of `judges` the trait and how lists stand in a row.
 #![tactic(auto)]
 
 pub use exhaustive::is_monotone;

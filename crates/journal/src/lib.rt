@@ -1,4 +1,5 @@
 // The journal of a run: what was asked and answered, as a text that a person can read and mend.
+// It uses `dialog` for what a line is, `session` for the reducer, and `bisect` and `subset` for what a question is.
 #![tactic(auto)]
 
 ghost use Rattle.journal.specs.Line.{ReadsBack};

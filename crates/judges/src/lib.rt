@@ -1,4 +1,5 @@
 // Judges to try the reducer with, and a driver that counts.
+// It uses the reducer by its one step, and `bisect` and `subset` for what a subset is.
 #![tactic(auto)]
 
 ghost use Rattle.std.specs.Prelude.{◌≡◌, ℕ, List, cond};

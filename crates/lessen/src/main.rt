@@ -1,4 +1,5 @@
 // One step of the reduction of a file: hears the answers so far, and writes the lines that are to be judged next.
+// It uses `candidate` for the lines, `dialog` for what it prints and reads, and `session` for the reducer.
 #![tactic(auto)]
 
 mod fault;

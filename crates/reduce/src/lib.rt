@@ -1,4 +1,5 @@
 // The reducer: one step over 72 lent numbers, and what it promises for every judge.
+// It uses `subset` and `bisect`, by their contracts alone. Programs use it through `session`.
 #![tactic(auto)]
 
 ghost use Rattle.std.specs.Prelude.{◌≡◌, ◌<◌, ◌≤◌, true, ◌++◌, length, drop, Some};

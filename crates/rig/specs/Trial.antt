@@ -45,17 +45,17 @@ pub record Shows (f : Judge) (n : ℕ) (told : Bool) (s : Shown) : Type 0 where
   pub asked : s.asked ≡ length (run_of acts n own f).asked
   pub monotone : Decides s.monotone (Known told n f)
 
--- what was found in a dialogue of the reducer itself, begun with a memory of zeros
-pub record Found (f : Judge) (n : ℕ) (told : Bool) (r : Finding) : Type 0 where
+-- what was found in a dialogue of the reducer itself, begun with a memory of zeros, if anything was
+pub record Found (f : Judge) (n : ℕ) (told : Bool) (r : Result (Unit {0}) Finding) : Type 0 where
   pub from : Machine
   pub to : Machine
   pub blank : from.memory ≡ replicate 72 0
-  pub inspected : Inspected Does f from n told (Err r) to
+  pub inspected : Inspected Does f from n told r to
 
--- it shows nothing where an inspection finds something, or there are too many parts
+-- it shows how the run went where an inspection finds nothing, and nothing where one does, or there are too many parts
 abbrev pub Tried : Judge → ℕ → Bool → Result Shown Wrong → Type 0
-Tried f n told (Ok s) = Shows f n told s
-Tried f n told (Err (Broken r)) = Found f n told r
+Tried f n told (Ok s) = Shows f n told s × Found f n told (Ok tt)
+Tried f n told (Err (Broken r)) = Found f n told (Err r)
 Tried f n told (Err TooMany) = 4096 < n
 
 -- what it prints where it shows nothing

@@ -1,4 +1,5 @@
 // A session: the reducer with a memory of its own, and what it told last.
+// It uses `bisect` and `reduce`. Who uses it knows nothing of the memory's layout.
 #![tactic(auto)]
 
 ghost use Rattle.std.specs.Prelude.{◌≡◌};

@@ -1,4 +1,5 @@
 // Some of up to 4,096 parts as a lent row of bits: part p is bit p % 64 of word p / 64. A row has at most 64 words.
+// It uses no other crate, and bits are known to it alone.
 #![tactic(auto)]
 
 ghost use Rattle.std.specs.Prelude.{◌≡◌, ℕ, ◌+◌, ◌-◌, ◌*◌, ◌/◌, ◌%◌, ◌^◌, ◌<◌, ◌≤◌, min, ◌&&◌, leb, List, [], ◌∷◌, map, length, take, drop, ◌==◌, nat_le, slice_index};

@@ -1,4 +1,5 @@
 // Tries the reducer against every judge of few parts and against random ones, and shows that the inspector catches machines that fail.
+// It uses `rig` for each trial, and `judges` and `faulty` for what is tried.
 #![tactic(auto)]
 
 use board::Board;
