@@ -1,5 +1,5 @@
 -- The worked examples, one by one.
-use Rattle.std.proofs.Common.{rules, ◌≡◌, ℕ, zero, suc, ◌≤◌, true, List, [], ◌∷◌, replicate, refl, sym, subst, nat_eq, arith}
+use Rattle.std.proofs.Common.{rules, ◌≡◌, ℕ, zero, suc, ◌≤◌, true, List, [], ◌∷◌, replicate, refl, sym, subst, nat_eq, inl, arith}
 use Rattle.std.specs.List.{list_all}
 use Rattle.std.proofs.lemmas.List.{length-replicate}
 use Rattle.subset.specs.Parts.{same, all_parts, rising, some_of}
@@ -10,7 +10,7 @@ use Rattle.bisect.specs.Promise.{Demands, LeanLeast}
 use Rattle.bisect.specs.Apart.{Decider}
 use Rattle.bisect.specs.Search.{keep, place, pass, fresh}
 use Rattle.bisect.specs.Pass.{pass_runs}
-use Rattle.bisect.specs.Examples.{both, just, any_of, always, changing, JudgeExamples, RunExamples, PromiseExamples, PassExamples}
+use Rattle.bisect.specs.Examples.{both, just, any_of, always, changing, JudgeExamples, RunExamples, PromiseExamples, PassExamples, PassedExamples}
 use Rattle.bisect.proofs.Cut.{cut_inner}
 use Rattle.bisect.proofs.Least.{lean_least}
 use Rattle.bisect.proofs.Demand.{sharp_whole}
@@ -52,6 +52,9 @@ still_steady k h = (rw (length-replicate {A = ℕ} k 0) h, all_zero k, λ m ev. 
 alone : (n x : ℕ) → Decides (Decider x) n x
 alone n x js s = search rules
 
+subsets : Decides (λ ks. cond (some_of 2 ks && has ks 0) 1 0) 2 0
+subsets js s = search rules
+
 pub of_judges : JudgeExamples
 unfolding same all_parts rising LeanLeast
 of_judges =
@@ -70,7 +73,7 @@ of_judges =
       smaller = λ l. search (rules, l (1 ∷ 4 ∷ []) refl refl refl);
       alone = alone;
       two = λ d. search (rules, d (1 ∷ []) refl);
-      subsets = λ d. search (rules, d (1 ∷ []) refl);
+      subsets = subsets;
       decider = refl;
     }
 
@@ -141,4 +144,32 @@ of_passes =
       above_two = refl;
       asks_none = refl;
       keeps_none = refl;
+    }
+
+pub of_passed : PassedExamples
+unfolding same rising
+of_passed =
+    record {
+      passed =
+          record {
+            done = refl;
+            some = refl;
+            inside = refl;
+            bad = refl;
+            came = inl refl;
+            shown = λ y h. search (rules, h);
+            nest = λ q a b. refl;
+            repeats = (λ h. search (rules, h), tt);
+            slim = λ m. refl;
+            slowly = omega arith;
+          };
+      unended = λ p. omega (arith, p.done);
+      no_subset = λ p. search (rules, p.some);
+      outside = λ p. search (rules, p.inside);
+      healthy = λ p. search (rules, p.bad);
+      unasked = λ p. search (rules, p.came);
+      not_shown = λ p. search (rules, (p.shown 0 refl).0);
+      aside = λ p. search (rules, p.nest (0 ∷ []) refl refl);
+      again = λ p. search (rules, p.repeats.0 refl);
+      slow = λ p. omega (arith, p.slowly);
     }

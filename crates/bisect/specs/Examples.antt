@@ -5,8 +5,8 @@ use Rattle.bisect.specs.Judge.{Judge, fails, lean, Monotone, Least, Decides}
 use Rattle.bisect.specs.Engine.{Event, parts, said, Act, ask, left, sound, refused, Engine, Ran, ran, run_of, told_left, told_sound, told_refused, still_asks, strayed, Steady}
 use Rattle.bisect.specs.Promise.{Lessened, Bounded, Few, Counts, Reduces, Whole, Sharp}
 use Rattle.bisect.specs.Apart.{Decider, answers}
-use Rattle.bisect.specs.Search.{cut_of}
-use Rattle.bisect.specs.Pass.{pass_of, Inner, asked_of, Repeats, StrictlyWithin, before, beyond}
+use Rattle.bisect.specs.Search.{Pass, place, pass, cut_of}
+use Rattle.bisect.specs.Pass.{progress, pass_of, Inner, asked_of, Repeats, StrictlyWithin, before, beyond, Passed}
 
 -- ---- judges
 -- it fails what has 1 and 4; what is just js; what is a subset of so many parts
@@ -39,7 +39,7 @@ pub record JudgeExamples : Type 0 where
   pub smaller : Least both 5 (1 ∷ 3 ∷ 4 ∷ []) → ⊥
   pub alone : (n x : ℕ) → Decides (Decider x) n x
   pub two : Decides both 5 1 → ⊥
-  pub subsets : Decides (any_of 2) 2 0 → ⊥
+  pub subsets : Decides (λ ks. cond (some_of 2 ks && has ks 0) 1 0) 2 0
   pub decider : answers (Decider 1) ((0 ∷ 2 ∷ []) ∷ (0 ∷ 1 ∷ []) ∷ []) ≡ 0 ∷ 1 ∷ []
 
 -- ---- engines and their runs
@@ -126,5 +126,26 @@ pub record PassExamples : Type 0 where
   pub asks_none : (pass_of (λ p. p.at.lo) (always 1) 2 (0 ∷ 1 ∷ [])).asked ≡ [] ∷ []
   pub keeps_none : (pass_of (λ p. p.at.lo) (always 1) 2 (0 ∷ 1 ∷ [])).now.held ≡ []
 
+-- it fails each part that is alone
+abbrev pub alone : Judge
+alone ks = cond (length ks == 1) 1 0
+
+-- a pass that has such a row, and holds ks
+abbrev pub at_row : ℕ → List ℕ → Pass
+at_row row ks = pass (place 0 row 2 1 0) ks
+
+pub record PassedExamples : Type 0 where
+  pub passed : Passed 2 (always 1) (0 ∷ 1 ∷ []) (progress (at_row 0 []) ([] ∷ []))
+  pub unended : Passed 2 (always 1) (0 ∷ 1 ∷ []) (progress (at_row 1 []) ([] ∷ [])) → ⊥
+  pub no_subset : Passed 1 (just (1 ∷ [])) (1 ∷ []) (progress (at_row 0 (1 ∷ [])) ([] ∷ [])) → ⊥
+  pub outside : Passed 2 (just (1 ∷ [])) (0 ∷ []) (progress (at_row 0 (1 ∷ [])) ((1 ∷ []) ∷ [])) → ⊥
+  pub healthy : Passed 2 (always 0) (0 ∷ []) (progress (at_row 0 []) ([] ∷ [])) → ⊥
+  pub unasked : Passed 2 (always 1) (0 ∷ 1 ∷ []) (progress (at_row 0 []) []) → ⊥
+  pub not_shown : Passed 2 (just (0 ∷ [])) (0 ∷ []) (progress (at_row 0 (0 ∷ [])) []) → ⊥
+  pub aside : Passed 2 alone (0 ∷ 1 ∷ []) (progress (at_row 0 (1 ∷ [])) ((1 ∷ []) ∷ [] ∷ (0 ∷ []) ∷ [])) → ⊥
+  pub again : Passed 2 (always 1) (0 ∷ 1 ∷ []) (progress (at_row 0 []) ([] ∷ [] ∷ [])) → ⊥
+  -- of two parts, three questions
+  pub slow : Passed 2 (always 1) (0 ∷ 1 ∷ []) (progress (at_row 0 []) ([] ∷ (0 ∷ []) ∷ (1 ∷ []) ∷ (0 ∷ 1 ∷ []) ∷ [])) → ⊥
+
 unfoldable pub Examples : Type 0
-Examples = JudgeExamples × RunExamples × PromiseExamples × PassExamples
+Examples = JudgeExamples × RunExamples × PromiseExamples × PassExamples × PassedExamples
