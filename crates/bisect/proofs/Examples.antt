@@ -1,8 +1,8 @@
 -- The worked examples, one by one.
-use Rattle.std.proofs.Common.{rules, ◌≡◌, ℕ, zero, suc, ◌≤◌, true, List, [], ◌∷◌, replicate, refl, sym, subst, nat_eq, inl, arith}
+use Rattle.std.proofs.Common.{◌&&◌, cond, rules, ◌≡◌, ℕ, zero, suc, ◌≤◌, true, List, [], ◌∷◌, replicate, refl, sym, subst, nat_eq, inl, arith}
 use Rattle.std.specs.List.{list_all}
 use Rattle.std.proofs.lemmas.List.{length-replicate}
-use Rattle.subset.specs.Parts.{same, all_parts, rising, some_of}
+use Rattle.subset.specs.Parts.{same, all_parts, rising, some_of, has}
 use Rattle.subset.specs.Laws.{all_small}
 use Rattle.bisect.specs.Judge.{fails, Monotone, Decides}
 use Rattle.bisect.specs.Engine.{parts, acted, runs, Steady}
