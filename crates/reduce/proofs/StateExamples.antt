@@ -8,7 +8,8 @@ use Rattle.bisect.specs.Search.{keep}
 use Rattle.bisect.specs.Examples.{just, always}
 use Rattle.reduce.specs.State.{trial, go_on, next_by, begin, act_by}
 use Rattle.reduce.specs.Examples.{after, alike}
-use Rattle.reduce.specs.StateExamples.{IdleExamples, TableExamples, StartExamples}
+use Rattle.reduce.specs.Entry.{ActTold}
+use Rattle.reduce.specs.StateExamples.{IdleExamples, TableExamples, StartExamples, StepExamples}
 
 pub of_idle : IdleExamples
 unfolding act_by next_by
@@ -61,4 +62,19 @@ of_starts =
       more = λ w. omega (arith, w.all);
       sharp = record { all = omega arith; one = λ m. omega arith };
       blunt = λ w. omega (arith, w.one grows);
+    }
+
+pub of_steps : StepExamples
+unfolding ActTold
+of_steps =
+    record {
+      asks = (refl, refl);
+      leaves = (refl, refl);
+      asks_not = λ d. search (rules, d.0);
+      other_memory = λ d. search (rules, d.0);
+      other_row = λ d. search (rules, d.1.1);
+      not_refused = λ s m o o₁ a. a;
+      memory_kept = λ r. search (rules, r.1);
+      row_kept = λ r. search (rules, r.2);
+      other_refusal = λ r. search (rules, r.0);
     }

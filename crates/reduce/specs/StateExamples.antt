@@ -1,11 +1,15 @@
 -- Worked examples of where the machine stands, of runs from any start, and of the table in Examples, whose rows must not hold of anything. Assumes nothing: these are definitions and statements.
-use Rattle.std.specs.Prelude.{◌≡◌, true, false, cond, [], ◌∷◌, length, ◌==◌}
+use Rattle.std.specs.Prelude.{◌≡◌, ℕ, true, false, cond, List, [], ◌∷◌, length, ◌==◌, Err}
 use Rattle.bisect.specs.Judge.{Judge}
-use Rattle.bisect.specs.Engine.{ran, refused, told_left}
+use Rattle.bisect.specs.Engine.{ask, left, refused, Step, ran, told_left}
 use Rattle.bisect.specs.Pass.{asked_of}
 use Rattle.bisect.specs.Search.{cut_of}
 use Rattle.bisect.specs.Examples.{just, always, asked_times}
 use Rattle.reduce.specs.State.{idle, over, calm, many, next, act_of}
+use Rattle.reduce.specs.Own.{doing}
+use Rattle.reduce.specs.Entry.{ActTold, Does, Answers, Refuses}
+use Rattle.reduce.specs.declared.Refusal.TheVariants.{Unfit, Torn}
+use Rattle.reduce.specs.declared.Told.TheVariants.{Ask, Rest, TooMany}
 use Rattle.reduce.specs.Start.{Reduced, Few, asking_first, knowing}
 use Rattle.reduce.specs.Examples.{says, is_lean, stands, runs, both, odd, transcript, holds}
 
@@ -49,5 +53,17 @@ pub record StartExamples : Type 0 where
   pub sharp : Few 2 (always 1) (0 ∷ 1 ∷ []) 1 (asked_times 14 [])
   pub blunt : Few 2 (always 1) (0 ∷ 1 ∷ []) 1 (asked_times 15 []) → ⊥
 
+-- what a step that is told must not hold of: another memory, another row, another refusal
+pub record StepExamples : Type 0 where
+  pub asks : ActTold (ask (1 ∷ [])) (Ask 1) (7 ∷ 8 ∷ []) (1 ∷ 8 ∷ [])
+  pub leaves : ActTold (left (1 ∷ [])) (Rest 1) (7 ∷ 8 ∷ []) (1 ∷ 8 ∷ [])
+  pub asks_not : ActTold (left (1 ∷ [])) (Ask 1) (7 ∷ 8 ∷ []) (1 ∷ 8 ∷ []) → ⊥
+  pub other_memory : Does (doing [] refused) TooMany (1 ∷ []) [] [] → ⊥
+  pub other_row : Does (doing [] refused) TooMany [] [] (1 ∷ []) → ⊥
+  pub not_refused : (s : Step) (memory₁ out out₁ : List ℕ) → Answers s (Err Torn) memory₁ out out₁ → ⊥
+  pub memory_kept : Refuses Torn [] [] (Err Torn) (1 ∷ []) [] → ⊥
+  pub row_kept : Refuses Torn [] [] (Err Torn) [] (1 ∷ []) → ⊥
+  pub other_refusal : Refuses Torn [] [] (Err Unfit) [] [] → ⊥
+
 unfoldable pub StateExamples : Type 0
-StateExamples = IdleExamples × TableExamples × StartExamples
+StateExamples = IdleExamples × TableExamples × StartExamples × StepExamples
