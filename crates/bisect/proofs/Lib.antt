@@ -11,3 +11,4 @@ pub mod Passes
 pub mod Demand
 pub mod Apart
 pub mod Asking
+pub mod Examples

@@ -8,3 +8,4 @@ pub mod Pass
 pub mod Apart
 pub mod Verdict
 pub mod Stand
+pub mod Examples

@@ -6,6 +6,7 @@ ghost use Rattle.std.specs.Prelude.{◌≡◌, ◌+◌, ◌≤◌, ◌++◌, len
 ghost use Rattle.subset.specs.Laws.{TakenOut};
 ghost use Rattle.subset.specs.Parts.{rising};
 ghost use Rattle.bisect.specs.Apart.{EnoughAsked, ToldApart};
+ghost use Rattle.bisect.specs.Examples.{Examples};
 ghost use Rattle.bisect.specs.Pass.{AnyPass, Nested, OnePass};
 ghost use Rattle.bisect.specs.Promise.{LeanLeast, NeededLeft, OneDecides};
 ghost use Rattle.bisect.specs.Reply.{WithoutSays, refusal};
@@ -111,6 +112,13 @@ pub fn pass_stands() -> u8
 pub fn apart_stands() -> u8
     ensures apart { ToldApart }
     ensures enough { EnoughAsked }
+{
+    0
+}
+
+// What the words of the promises say in worked examples.
+pub fn examples_stand() -> u8
+    ensures { Examples }
 {
     0
 }

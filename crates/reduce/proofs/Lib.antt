@@ -8,3 +8,4 @@ pub mod Steady
 pub mod Reduces
 mod Memory
 mod Laws
+pub mod StateExamples

@@ -3,3 +3,4 @@ pub mod Start
 pub mod Own
 pub mod Entry
 pub mod Examples
+pub mod StateExamples

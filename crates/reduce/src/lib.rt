@@ -13,6 +13,7 @@ ghost use Rattle.reduce.specs.Entry.{Does, Heard, Reacts, StepSays, event, fault
 ghost use Rattle.reduce.specs.Examples.{EachHolds, Examples};
 ghost use Rattle.reduce.specs.Own.{fault, held, moved, nowhere, own, progress, stage, stands, stored};
 ghost use Rattle.reduce.specs.Start.{FromAny, FromCuts, NestedTrial};
+ghost use Rattle.reduce.specs.StateExamples.{StateExamples};
 ghost use Rattle.reduce.specs.State.{go_on, less, next, trial};
 
 use bisect::{LENGTH, MOST, Search};
@@ -392,6 +393,13 @@ pub fn starts_stand() -> u8
 pub fn examples_stand() -> u8
     ensures table { Examples }
     ensures row { EachHolds }
+{
+    0
+}
+
+// Where it stands, what it asks from other starts, and what the table above does not hold of, in worked examples.
+pub fn states_stand() -> u8
+    ensures { StateExamples }
 {
     0
 }

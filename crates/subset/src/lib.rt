@@ -4,6 +4,7 @@
 
 ghost use Rattle.std.specs.Prelude.{◌≡◌, ℕ, ◌+◌, ◌-◌, ◌*◌, ◌/◌, ◌%◌, ◌^◌, ◌<◌, ◌≤◌, min, ◌&&◌, leb, List, [], ◌∷◌, map, length, take, drop, ◌==◌, nat_le, slice_index};
 ghost use Rattle.std.specs.List.{filter};
+ghost use Rattle.subset.specs.Examples.{Examples};
 ghost use Rattle.subset.specs.Laws.{Changes, EqualSame, KnownByMembers, MembersRise, SameMembers, SubsetsStay, TakenOut, ToldBack, WordsSmall};
 ghost use Rattle.subset.specs.Parts.{all_parts, has, within, without};
 ghost use Rattle.subset.specs.Row.{alike, cut_out, half, joined, members, with_part, words_of};
@@ -314,6 +315,13 @@ pub fn rows_stand() -> u8
     ensures out { TakenOut }
     ensures equal { EqualSame }
     ensures changes { Changes }
+{
+    0
+}
+
+// What the words of rows say in worked examples.
+pub fn examples_stand() -> u8
+    ensures { Examples }
 {
     0
 }
