@@ -79,8 +79,9 @@ def plain(crate, error):
     name = (goal[1] or goal[2]) if goal else ""
     need = next((words for pattern, words in GOALS if re.match(pattern, name)), "") if name else ""
     said = re.match(r"it is not proved that (.*?) \(`", text)
-    if not need or (said and not name.startswith("returns")):
-        need = "that " + re.sub(r" ?\(.*", "", said[1]) if said else need or "the proof"
+    if said and not name.startswith("returns"):
+        need = "that " + re.sub(r" ?\(.*", "", said[1])
+    need = need or ("a lemma of its proof" if name else "its proof")
     clause = re.search(r"-clause-([\w]+)$", name)
     parts = [f"`{function(crate, place, line)}`: {need}" + (f", clause {clause[1]}" if clause else "") + (f" (`{name}`)" if name else "")]
     how = first(HOWS, text, "")
@@ -133,7 +134,8 @@ def bugs():
         for it in kept:
             if it["crate"] == crate:
                 by = plain(crate, it["error"]) if it["error"] else ""
-                result = it["result"] + (f": {by}" if by else "") + (f". {it['by_hand']}" if it.get("by_hand") else "")
+                stood = f" (as the proof stood, {by})" if it["result"].startswith("proved") else f": {by}"
+                result = it["result"] + (stood if by else "") + (f". {it['by_hand']}" if it.get("by_hand") else "")
                 yield row(f"{it['file']}: {code(it['old'])} → {code(it['new'])}", it["what"], result.replace("|", "\\|"))
 
 
@@ -153,8 +155,11 @@ Every edit of `crates/*/must-fail`. The gate tries each again where what it stan
 BUGS = """
 ## Further bugs
 
-Kept in `tools/planted.json`, with what was seen when each was tried by hand; the gate doesn't try them again.
-"Proved" is a change that the contracts let through.
+Kept in `tools/planted.json`, with what was seen when each was tried; the gate doesn't try them again. Bugs in different
+functions of a crate were tried together, since the proof of one function reads only the contracts of the others; the
+first error in the function of each counts, and each that proved was tried again with no other that is refused. "Proved" is a
+change that the contracts let through. Where the first error was
+only that a proof file no longer fitted, the proof was mended by hand as far as it went, and the row says so.
 """
 
 with open("docs/PLANTED.md", "w") as out:
