@@ -157,9 +157,9 @@ BUGS = """
 
 Kept in `tools/planted.json`, with what was seen when each was tried; the gate doesn't try them again. Bugs in different
 functions of a crate were tried together, since the proof of one function reads only the contracts of the others; the
-first error in the function of each counts, and each that proved was tried again with no other that is refused. "Proved" is a
-change that the contracts let through. Where the first error was
-only that a proof file no longer fitted, the proof was mended by hand as far as it went, and the row says so.
+first error in the function of each counts, and each that proved was tried again with no other that is refused. "Proved"
+is a change that the contracts let through. Where the first error was only that a proof file no longer fitted, the proof
+was mended by hand as far as it went, and the row says so.
 """
 
 with open("docs/PLANTED.md", "w") as out:
