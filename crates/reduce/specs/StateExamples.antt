@@ -1,5 +1,5 @@
 -- Worked examples of where the machine stands, of runs from any start, and of the table in Examples, whose rows must not hold of anything. Assumes nothing: these are definitions and statements.
-use Rattle.std.specs.Prelude.{◌≡◌, ℕ, true, false, cond, List, [], ◌∷◌, length, ◌==◌, Err}
+use Rattle.std.specs.Prelude.{◌≡◌, ℕ, true, false, cond, List, [], ◌∷◌, length, drop, ◌==◌, Err}
 use Rattle.bisect.specs.Judge.{Judge}
 use Rattle.bisect.specs.Engine.{ask, left, refused, Step, ran, told_left}
 use Rattle.bisect.specs.Pass.{asked_of}
@@ -30,7 +30,7 @@ pub record TableExamples : Type 0 where
   pub another_needed : holds (stands both 6 (0 ∷ 1 ∷ 4 ∷ []) (0 ∷ []) (4 ∷ [])) ≡ false
   pub another_question : holds (stands both 6 (0 ∷ 1 ∷ 3 ∷ []) (0 ∷ []) (1 ∷ 4 ∷ [])) ≡ false
   pub another_transcript : holds (runs both 6 ((0 ∷ []) ∷ transcript) (1 ∷ 4 ∷ [])) ≡ false
-  pub another_first : holds (runs (always 0) 1 ((1 ∷ []) ∷ []) []) ≡ false
+  pub another_first : holds (runs both 6 ((0 ∷ []) ∷ drop 1 transcript) (1 ∷ 4 ∷ [])) ≡ false
   pub another_rest : holds (runs both 6 transcript (4 ∷ [])) ≡ false
   pub healthy : holds (runs (always 0) 1 ((0 ∷ []) ∷ []) []) ≡ false
 
