@@ -24,3 +24,19 @@ expect() {
     [[ -n $4 || -z $told ]] || fail "$1: the message '$told'"
     echo "ok: $1"
 }
+
+# sums: the checksums of the files in the folder, but for those that the tests write themselves
+sums() {
+    find . ! -name said ! -name told ! -name before ! -name after ! -name calls -type f -exec cksum {} + | sort
+}
+
+# keeps NAME TOLD ARGUMENT..: refused by `run` with a text in its message, and no file in the folder is another afterwards
+keeps() {
+    local name=$1 text=$2
+    shift 2
+    sums >before
+    run "$@"
+    sums >after
+    cmp -s before after || fail "$name: a file has changed"
+    expect "$name" 1 "" "$text"
+}

@@ -112,22 +112,6 @@ run many answers out
 expect "4,096 lines" 0 "$(seq -s ' ' 0 4095)?" ""
 cmp -s many out || fail "all 4,096 lines"
 
-# sums: the checksums of the files in the folder, but for those that this script writes to
-sums() {
-    find . ! -name said ! -name told ! -name before ! -name after -type f -exec cksum {} + | sort
-}
-
-# keeps NAME TOLD ARGUMENT..: refused with a text in its message, and no file in the folder is another afterwards
-keeps() {
-    local name=$1 text=$2
-    shift 2
-    sums >before
-    run "$@"
-    sums >after
-    cmp -s before after || fail "$name: a file has changed"
-    expect "$name" 1 "" "$text"
-}
-
 printf 'y\nn\n' >answers
 printf 'keep' >out
 keeps "no arguments" "usage: lessen LINES ANSWERS OUT"

@@ -116,22 +116,6 @@ killed "killed and begun again" KILL killed.txt
 killed "interrupted with the judge, and begun again" INT interrupted.txt
 killed "ended, and begun again" TERM ended.txt
 
-# sums: the checksums of the files in the folder, but for those that this script writes to
-sums() {
-    find . ! -name said ! -name told ! -name before ! -name after ! -name calls -type f -exec cksum {} + | sort
-}
-
-# keeps NAME TOLD ARGUMENT..: refused with a text in its message, and no file in the folder is another afterwards
-keeps() {
-    local name=$1 text=$2
-    shift 2
-    sums >before
-    run "$@"
-    sums >after
-    cmp -s before after || fail "$name: a file has changed"
-    expect "$name" 1 "" "$text"
-}
-
 keeps "no arguments" "usage: tools/reduce JUDGE FILE [OUT]"
 keeps "no FILE" "usage: tools/reduce" ./four
 keeps "four arguments" "usage: tools/reduce" ./four file.txt out more
