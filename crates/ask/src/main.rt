@@ -41,6 +41,15 @@ fn say(rt: &HostRuntime, line: impl Display + Drop) -> io::Result<()> {
 }
 
 impl Talk {
+    // Goes on where a journal ends, and is kept there. The session is changed in its place: moved in results, it would
+    // stand on the stack a dozen times.
+    fn take_up(&mut self, rt: &HostRuntime, parts: u64, path: &str) -> anyhow::Result<()> {
+        let mut record = Record::open(rt, path)?;
+        self.answered = record.take_up(rt.alloc(), parts, &mut self.session)?;
+        self.record = Some(record);
+        Ok(())
+    }
+
     // Says what the reducer does, and whether that is a question.
     fn asks(&self, rt: &HostRuntime) -> io::Result<bool> {
         match self.session.act() {
@@ -80,16 +89,27 @@ impl Talk {
         }
     }
 
-    // Goes on by a line if it is an answer; at any other the question stays.
-    fn read(&mut self, rt: &HostRuntime, line: &[u8]) -> anyhow::Result<()> {
+    // Goes on by a line if it is an answer, and says whether it was one.
+    fn read(&mut self, rt: &HostRuntime, line: &[u8]) -> anyhow::Result<bool> {
         let Some(verdict) = reading::verdict_in(line) else {
             let text = String::from_utf8_lossy(rt.alloc(), line)?;
             eprintln!(rt; "no answer: {text:?}; {UNDERSTOOD}")?;
-            return Ok(());
+            return Ok(false);
         };
         self.hear(rt, verdict)?;
         if self.verbose {
             self.tell_progress(rt)?;
+        }
+        Ok(true)
+    }
+
+    // Asks the same again, from its text: whoever sends many lines that are no answers waits for no number to be printed anew.
+    fn ask_again(&self, rt: &HostRuntime, text: &mut Option<String>) -> anyhow::Result<()> {
+        if let (None, Act::Ask(question)) = (&*text, self.session.act()) {
+            *text = Some(Question(question).to_string(rt.alloc())?);
+        }
+        if let Some(text) = text {
+            say(rt, text.as_str())?;
         }
         Ok(())
     }
@@ -98,8 +118,14 @@ impl Talk {
         if !self.asks(rt)? {
             return Ok(());
         }
+        // The question, once it had to be asked again.
+        let mut text = None;
         for line in lines {
-            self.read(rt, line?.as_slice())?;
+            if !self.read(rt, line?.as_slice())? {
+                self.ask_again(rt, &mut text)?;
+                continue;
+            }
+            text = None;
             if !self.asks(rt)? {
                 return Ok(());
             }
@@ -127,27 +153,6 @@ fn refuse(rt: &HostRuntime, given: &[u8]) -> anyhow::Result<ExitCode> {
     Ok(ExitCode::FAILURE)
 }
 
-// A talk that is begun, or taken up where its journal ends.
-fn open(rt: &HostRuntime, parts: u64, options: &Options) -> anyhow::Result<Talk> {
-    let verbose = options.verbose;
-    let (Some(path), true) = (&options.journal, parts <= MOST) else {
-        return Ok(Talk {
-            session: Session::begin(parts),
-            record: None,
-            answered: 0,
-            verbose,
-        });
-    };
-    let mut record = Record::open(rt, path)?;
-    let (session, answered) = record.take_up(rt.alloc(), parts)?;
-    Ok(Talk {
-        session,
-        record: Some(record),
-        answered,
-        verbose,
-    })
-}
-
 fn run(rt: &HostRuntime) -> anyhow::Result<ExitCode> {
     let heap = rt.alloc();
     let mut options = Options::read(rt)?;
@@ -159,14 +164,18 @@ fn run(rt: &HostRuntime) -> anyhow::Result<ExitCode> {
         Err(SizeError::TooMany) => u64::MAX,
         Err(SizeError::NoNumber) => return refuse(rt, given.as_slice()),
     };
-    let mut talk = match open(rt, parts, &options) {
-        Ok(talk) => talk,
-        Err(error) => {
-            let path = options.journal.as_deref().unwrap_or("");
+    let mut talk = Talk {
+        session: Session::begin(parts),
+        record: None,
+        answered: 0,
+        verbose: options.verbose,
+    };
+    if let (Some(path), true) = (options.journal.as_deref(), parts <= MOST) {
+        if let Err(error) = talk.take_up(rt, parts, path) {
             eprintln!(rt; "ask: {path}: {error}")?;
             return Ok(ExitCode::FAILURE);
         }
-    };
+    }
     talk.run(rt, &mut lines)?;
     Ok(ExitCode::SUCCESS)
 }

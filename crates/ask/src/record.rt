@@ -54,15 +54,20 @@ impl Record {
         self.add(heap, " #")
     }
 
-    // Begins a journal, or goes on where it ends; and how many questions it tells of. What is no journal of so many parts
-    // stays as it is.
-    pub(crate) fn take_up(&mut self, heap: Global, parts: u64) -> anyhow::Result<(Session, usize)> {
+    // Begins a journal, or brings a session that was just begun to where it ends; and how many questions it tells of. What
+    // is no journal of so many parts stays as it is.
+    pub(crate) fn take_up(
+        &mut self,
+        heap: Global,
+        parts: u64,
+        session: &mut Session,
+    ) -> anyhow::Result<usize> {
         let mut text = Vec::new(heap);
         self.file.read_to_end(&mut text)?;
         if is_unbegun(heap, parts, &text)? {
             self.end_torn(heap, &text)?;
             self.add(heap, Heading(parts))?;
-            return Ok((Session::begin(parts), 0));
+            return Ok(0);
         }
         let replayed = replay(heap, &text)?;
         ensure!(
@@ -71,6 +76,7 @@ impl Record {
             replayed.parts
         );
         self.end_torn(heap, &text)?;
-        Ok((replayed.session, exchanges(&text)))
+        *session = replayed.session;
+        Ok(exchanges(&text))
     }
 }

@@ -193,12 +193,14 @@ impl Search {
 pub fn question(words: &[u64], at: Search, out: &mut [u64]) -> Option<u64>
     ensures { Told (askable at words.now out.old) (asked at (members words.now)) out.old result out.new }
 {
-    let mut row = [0; MOST as usize];
-    let count = subset::tell(words, &mut row)?;
-    let cut = at.cut(count)?;
+    // Tested before a row is cleared and filled: a refusal costs no more than its tests.
+    let members = subset::count(words)?;
+    let cut = at.cut(members)?;
     if out.len() < MOST as usize {
         return None;
     }
+    let mut row = [0; MOST as usize];
+    let count = subset::tell(words, &mut row)?;
     let (beginning, needed) = (&row[..cut as usize], &row[at.row as usize..count as usize]);
     Some(lay(beginning, needed, out))
 }

@@ -11,7 +11,10 @@ use subset::{is_within, tell};
 #[derive(Clone, Copy)]
 struct Few {
     parts: u64,
+    // The numbers of their subsets are those below it. Held, so that no turn of a loop computes it anew.
+    subsets: u64,
     ghost few: { parts ≤ 9 },
+    ghost all: { subsets ≡ 2 ^ parts },
 }
 
 impl Few {
@@ -21,14 +24,10 @@ impl Few {
         if parts > 9 {
             return None;
         }
-        Some(Few { parts })
-    }
-
-    // The numbers of the subsets are those below it.
-    fn subsets(self) -> u64
-        ensures { result ≡ 2 ^ self.parts }
-    {
-        1 << self.parts
+        Some(Few {
+            parts,
+            subsets: 1 << parts,
+        })
     }
 }
 
@@ -68,7 +67,7 @@ fn of_all<J: Judge, F: Fn(&mut J, u64) -> bool>(judge: &mut J, few: Few, holds: 
     ensures tried { Tried (λ c b. (j : _) × (k : _) × (J.meaning j.now ≡ J.meaning judge.old) × F.post holds j c b k) few.parts result }
 {
     // No `all`: what holds of a judge that its closure asks takes an invariant over captures, which is no plainer.
-    for code in 0..few.subsets() {
+    for code in 0..few.subsets {
         if !holds(judge, code) {
             return false;
         }

@@ -1,22 +1,18 @@
 -- The place of a subset in a table.
-use Rattle.std.proofs.Common.{◌≡◌, ℕ, suc, ◌+◌, ◌-◌, ◌*◌, ◌^◌, ◌<◌, ◌≤◌, List, [], ◌∷◌, min, sym, refl, ap, ◌∙◌, subst, inl, inr, mul_assoc, pow-suc, mul-zero, mul-one, mul-add, arith, pow_pos, pow_mono, pow-add}
+use Rattle.std.proofs.Common.{◌≡◌, ℕ, suc, ◌+◌, ◌-◌, ◌*◌, ◌^◌, ◌<◌, ◌≤◌, List, [], ◌∷◌, length, get_or, drop, sym, refl, ap, ◌∙◌, subst, inl, inr, mul_assoc, pow-suc, mul-zero, mul-one, mul-add, arith, pow_pos, pow_mono, pow-add}
 use native.Mathlib.Nat.{eq_of_mul-eq-mul_left}
-use Rattle.std.specs.List.{fold}
+use Rattle.std.proofs.lemmas.List.{at_drop_more, at_drop_all}
 use Rattle.std.proofs.lemmas.Bool.{cases_order}
 use Rattle.subset.proofs.Lists.{Row, row_from}
 use Rattle.judges.specs.Table.{index_of, OwnPlace}
 
--- one part more, as far as a number goes
-abbrev pub saturated : ℕ → ℕ → ℕ
-saturated a p = min (a + min (2 ^ p) (2 ^ 64 - 1)) (2 ^ 64 - 1)
-
-added : (a : ℕ) (ks : List ℕ) → a < 2 ^ 64 → fold saturated a ks ≡ min (a + index_of ks) (2 ^ 64 - 1)
+pub index_more : (ks : List ℕ) (i : ℕ) → i < length ks → index_of (drop i ks) ≡ 2 ^ get_or ks i 0 + index_of (drop (i + 1) ks)
 unfolding index_of
-added a [] h = omega arith
-added a (k ∷ ks) h = added (saturated a k) ks (omega arith) ∙ omega arith
+index_more ks i h = at_drop_more index_of ks i 0 h
 
-pub placed : (ks : List ℕ) → fold saturated 0 ks ≡ min (index_of ks) (2 ^ 64 - 1)
-placed ks = added 0 ks (omega arith) ∙ omega arith
+pub index_all : (ks : List ℕ) (i : ℕ) → length ks ≤ i → index_of (drop i ks) ≡ 0
+unfolding index_of
+index_all ks i h = at_drop_all index_of ks i h
 
 twice : (k : ℕ) → 2 ^ suc k ≡ 2 ^ k + 2 ^ k
 twice k = pow-suc 2 k ∙ omega arith

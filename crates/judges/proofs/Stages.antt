@@ -21,11 +21,11 @@ use Rattle.reduce.proofs.Stored.{step_said}
 use Rattle.reduce.proofs.Steady.{steady}
 use Rattle.reduce.proofs.Reduces.{sharp}
 use Rattle.judges.specs.Kept.{Kept}
-use Rattle.judges.specs.Driver.{most}
+use Rattle.judges.specs.Driver.{most, Ends}
 use Rattle.judges.specs.declared.driver.Ended.{Ended}
 use Rattle.judges.specs.declared.driver.RunError.{RunError}
 use Rattle.judges.specs.declared.driver.RunError.TheVariants as error
-use Rattle.judges.specs.Whole.{ended_as, run_told}
+use Rattle.judges.specs.Whole.{Tells, ended_as, run_told}
 use Rattle.judges.proofs.Shown.{shown}
 
 -- ---- what each subset that is asked keeps holds of all that was asked
@@ -286,3 +286,14 @@ module _ (n : ℕ) (f : Judge) where
         stage = next;
       } in
       rw heard more
+
+  -- what is told of the whole run says how it ended
+  pub tells_ends : (out : List ℕ) (r : Result Ended RunError) (m₁ out₁ : List ℕ) → Tells n f out r m₁ out₁ → Ends n f out r m₁ out₁
+  tells_ends out r m₁ out₁ v = record {
+    many = λ l. v.told ∙ ap ended_as (v.kept.many l);
+    sound = λ l b. v.told ∙ ap ended_as (v.kept.sound l b);
+    left = λ l b.
+        let w = v.kept.left l b in
+        record { run = run_of v.acts n own f; told = v.told ∙ rw w.lessened.done; row = v.row; keeps = w };
+    rests = v.rests;
+  }

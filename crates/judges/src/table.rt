@@ -1,5 +1,5 @@
 // One number for each subset.
-ghost use Rattle.std.specs.Prelude.{◌≡◌, ◌-◌, ◌^◌, min};
+ghost use Rattle.std.specs.Prelude.{◌≡◌, ◌^◌, ◌<◌, min};
 ghost use Rattle.judges.specs.Table.{index_of, tabled};
 
 use super::Judge;
@@ -10,26 +10,38 @@ pub struct Table<'a> {
     pub numbers: &'a [u64],
 }
 
-// What a part counts, as far as a number goes.
+// What a part counts.
 fn bit(part: u64) -> usize
-    ensures { result ≡ min (2 ^ part) (2 ^ 64 - 1) }
+    requires { part < 64 }
+    ensures { result ≡ 2 ^ part }
 {
-    if part < 64 { 1 << part } else { usize::MAX }
+    1 << part
 }
 
-// The place of a subset, as far as a number goes: no row is so long that anything stands at the last.
-fn place(subset: &[u64]) -> usize
-    ensures { result ≡ min (index_of subset.now) (2 ^ 64 - 1) }
+// The place of a subset, or `most` if it lies there or past it.
+// No `fold`: a short table is asked of many parts, too, and the first few tell that their place lies past its end.
+fn place(subset: &[u64], most: usize) -> usize
+    ensures { result ≡ min (index_of subset.now) most }
 {
-    subset
-        .iter()
-        .fold(0usize, |index, part| index.saturating_add(bit(*part)))
+    let mut index = 0;
+    for p in subset {
+        if *p >= 64 {
+            return most;
+        }
+        let step = bit(*p);
+        if step >= most - index {
+            return most;
+        }
+        index += step;
+    }
+    index
 }
 
 impl<'a> Judge for Table<'a> {
     ghost meaning = { λ t. tabled t.numbers.now };
 
     fn says(&mut self, subset: &[u64]) -> u64 {
-        self.numbers.get(place(subset)).copied().unwrap_or(0)
+        let place = place(subset, self.numbers.len());
+        self.numbers.get(place).copied().unwrap_or(0)
     }
 }

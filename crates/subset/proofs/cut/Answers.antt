@@ -30,10 +30,12 @@ overflow_add-before c =
 
 pub loop-word-preserved : goal.loop-word-preserved
 loop-word-preserved c =
+    let start : c.saturating_sub.result ≡ c.args.from - c.loop-word.before = search (rules, arith) in
+    let end : c.saturating_sub-in-loop-word.result ≡ c.args.to - c.loop-word.before = search (rules, arith) in
     cutting_more c.args.from c.args.to c.args.words.now c.loop-word.words c.loop-word.word-index c.loop-word.before c.cut_word.result c.loop-word.invariant
     c.loop-word.auto.words (omega arith) c.cut_word.type_inv
     (c.cut_word.ensures
-    ∙ ap₂ (λ a b. cut_out a b (members (get_or c.loop-word.words c.loop-word.word-index 0 ∷ []))) c.saturating_sub.ensures c.saturating_sub-in-loop-word.ensures
+    ∙ ap₂ (λ a b. cut_out a b (members (get_or c.loop-word.words c.loop-word.word-index 0 ∷ []))) start end
     ∙ ap (λ w. cut_out (c.args.from - c.loop-word.before) (c.args.to - c.loop-word.before) (members (w ∷ []))) (kept c))
     (c.loop-word.before + c.ones-here.result) (ap (λ k. c.loop-word.before + k) (counted c))
 

@@ -7,7 +7,7 @@ pub returns-then-not-holds-clause-tried : goal.returns-then-not-holds-clause-tri
 unfolding Tried
 returns-then-not-holds-clause-tried g c =
     let gave = c.holds.ensures in
-    (c.loop-code.code, omega (arith, c.loop-code-test.true, c.subsets-code-end.ensures), (_, _, c.loop-code.invariant.0, rw c.if-not-holds.true at gave))
+    (c.loop-code.code, omega (arith, c.loop-code-test.true, c.args.few.all), (_, _, c.loop-code.invariant.0, rw c.if-not-holds.true at gave))
 
 pub loop-code-preserved : goal.loop-code-preserved
 loop-code-preserved g c =
@@ -21,4 +21,4 @@ loop-code-preserved g c =
 
 pub returns-clause-tried : goal.returns-clause-tried
 unfolding Tried
-returns-clause-tried g c = λ x l. c.loop-code.invariant.1 x (omega (arith, c.loop-code-test.false, c.subsets-code-end.ensures))
+returns-clause-tried g c = λ x l. c.loop-code.invariant.1 x (omega (arith, c.loop-code-test.false, c.args.few.all))

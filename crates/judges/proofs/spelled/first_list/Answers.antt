@@ -1,4 +1,4 @@
-use Rattle.std.proofs.Common.{ap, ◌∙◌}
+use Rattle.std.proofs.Common.{◌≡◌, min, length, ap, ◌∙◌, arith, rules}
 use Rattle.std.proofs.lemmas.List.{nil_from_length, take_min, drop_min}
 use Rattle.judges.specs.Spelled.{lists_of}
 use Rattle.judges.proofs.Listed.{first_of, one_by_one}
@@ -11,4 +11,5 @@ pub returns : goal.returns
 returns c =
     let numbers = c.in_ok-count.numbers.now in
     let count = c.in_ok-count.count.now in
-    first_of _ _ _ _ _ c.in_ok-count.ensures.cases.0 (c.split_at.ensures.front ∙ rw c.min.ensures (take_min count numbers)) (c.split_at.ensures.back ∙ rw c.min.ensures (drop_min count numbers))
+    let least : c.min.result ≡ min count (length numbers) = search (rules, arith) in
+    first_of _ _ _ _ _ c.in_ok-count.ensures.cases.0 (c.split_at.ensures.front ∙ rw least (take_min count numbers)) (c.split_at.ensures.back ∙ rw least (drop_min count numbers))
