@@ -103,30 +103,29 @@ impl Talk {
         Ok(true)
     }
 
-    // Asks the same again, from its text: whoever sends many lines that are no answers waits for no number to be printed anew.
-    fn ask_again(&self, rt: &HostRuntime, text: &mut Option<String>) -> anyhow::Result<()> {
-        if let (None, Act::Ask(question)) = (&*text, self.session.act()) {
-            *text = Some(Question(question).to_string(rt.alloc())?);
-        }
-        if let Some(text) = text {
-            say(rt, text.as_str())?;
-        }
-        Ok(())
+    // The question as text, if it asks one.
+    fn text(&self, rt: &HostRuntime) -> anyhow::Result<Option<String>> {
+        let Act::Ask(question) = self.session.act() else {
+            return Ok(None);
+        };
+        Ok(Some(Question(question).to_string(rt.alloc())?))
     }
 
     fn run(&mut self, rt: &HostRuntime, lines: &mut Lines) -> anyhow::Result<()> {
         if !self.asks(rt)? {
             return Ok(());
         }
-        // The question, once it had to be asked again.
+        // The question as text, from the first line on that is no answer: who sends one may send more, and then no number
+        // is formatted twice.
         let mut text = None;
         for line in lines {
-            if !self.read(rt, line?.as_slice())? {
-                self.ask_again(rt, &mut text)?;
-                continue;
+            let heard = self.read(rt, line?.as_slice())?;
+            if heard == text.is_some() {
+                text = self.text(rt)?;
             }
-            text = None;
-            if !self.asks(rt)? {
+            if let Some(text) = &text {
+                say(rt, text.as_str())?;
+            } else if !self.asks(rt)? {
                 return Ok(());
             }
         }
